@@ -1,0 +1,5 @@
+-- The laws that proofs cite: of the bounded definitions, of the bits of words, of sets of objects, and of the clash.
+pub mod Below
+pub mod Bits
+pub mod Sets
+pub mod Clash

@@ -1,0 +1,8 @@
+-- The theorems of the rules, and the laws that they share.
+pub mod Laws
+pub mod Cases
+pub mod Ranking
+pub mod Accepted
+pub mod Fresh
+pub mod Events
+pub mod Reachable

@@ -1,0 +1,24 @@
+-- The paper's number and values for each case of what is said: 0 where a value does not apply.
+use Prim.Native.Nat.{ℕ}
+use Rattle.rules.specs.declared.Said.{Said}
+use Rattle.rules.specs.declared.Said.the-variants.{Ok, Run, Wait, No}
+
+-- the refusal number, '0: accepted'
+abbrev pub number : Said → ℕ
+number Ok = 0
+number Run = 0
+number (Wait b k) = 0
+number (No k) = k
+
+-- 'In every answer but that of a release that waits, the contested object, the contested count and any task named with them are 0.'
+abbrev pub object : Said → ℕ
+object Ok = 0
+object Run = 0
+object (Wait b k) = b
+object (No k) = 0
+
+abbrev pub contested : Said → ℕ
+contested Ok = 0
+contested Run = 0
+contested (Wait b k) = k
+contested (No k) = 0

@@ -1,0 +1,163 @@
+-- The four events: the number that refuses one, and the answer with the session after it.
+use Prim.Native.Nat.{ℕ, zero, suc, _+_, min}
+use mathlib.Core.List.{List}
+use mathlib.Core.Bool.{Bool, true, false, cond, not, _&&_}
+use lib.Dec.{eqb, leb, ltb}
+use lib.ListN.{getD, set, replicate}
+use Rattle.objects.specs.Objects.{Sets, clash}
+use Rattle.rules.specs.declared.State.{State}
+use Rattle.rules.specs.declared.State.the-variants.{Absent, Plain, Waiting, Executing}
+use Rattle.rules.specs.declared.Arrival.{Arrival}
+use Rattle.rules.specs.declared.Arrival.the-variants.{Never, At}
+use Rattle.rules.specs.declared.Task.{Task}
+use Rattle.rules.specs.declared.Session.{Session}
+use Rattle.rules.specs.declared.Kind.{Kind}
+use Rattle.rules.specs.declared.Kind.the-variants.{Arrive, Release, Commit, Finish}
+use Rattle.rules.specs.declared.Event.{Event}
+use Rattle.rules.specs.declared.Said.{Said}
+use Rattle.rules.specs.declared.Said.the-variants.{Ok, Run, Wait, No}
+use Rattle.rules.specs.declared.Answer.{Answer}
+use Rattle.rules.specs.Ranking.{Ranking}
+use Rattle.rules.specs.Tasks.{isAbsent, isPlain, isExecuting, taskAt, stateAt, waiting, setsAt, setsOf, known, inState, withTasks, withTask, withSets, stamped}
+use Rattle.rules.specs.Room.{room}
+use Rattle.rules.specs.Contest.{blocked, lowestContested, contestedCount}
+use Rattle.rules.specs.Scan.{Scanned, none, scan}
+
+-- ---- 'Events try 1 to 7 in that order': the first that is given
+
+-- 1 task not below n; 2 tick below the last accepted event's tick (equal is allowed); 3 1,000,000 events already accepted; then the rest
+abbrev pub trying : Session → ℕ → ℕ → ℕ → ℕ
+trying s tick i rest = cond (known s i) (cond (ltb tick (s .tick)) 2 (cond (leb 1000000 (s .accepted)) 3 rest)) 1
+
+-- '5: arrive less than one period after the last arrival (first arrival is free)'
+abbrev pub early : Arrival → ℕ → ℕ → Bool
+early Never period tick = false
+early (At last) period tick = ltb tick (last + period)
+
+-- '4: wrong state: arrive not absent'
+unfoldable pub arriveNumber : Session → ℕ → ℕ → ℕ
+arriveNumber s tick i =
+    trying s tick i
+    (cond (isAbsent (stateAt s i)) (cond (early (taskAt s i .arrival) (taskAt s i .terms .period) tick) 5 0) 4)
+
+-- '4: release or finish not plain'; '6: release or finish by a plain task not on a processor'; '7: release when the job has used its transactions'
+unfoldable pub releaseNumber : Ranking → Session → ℕ → ℕ → ℕ
+unfolding room
+releaseNumber rank s tick i =
+    trying s tick i
+    (cond (isPlain (stateAt s i))
+    (cond (room rank s i) (cond (ltb (taskAt s i .releases) (taskAt s i .terms .transactions)) 0 7) 6)
+    4)
+
+-- '4: commit not executing'
+unfoldable pub commitNumber : Session → ℕ → ℕ → ℕ
+commitNumber s tick i = trying s tick i (cond (isExecuting (stateAt s i)) 0 4)
+
+unfoldable pub finishNumber : Ranking → Session → ℕ → ℕ → ℕ
+unfolding room
+finishNumber rank s tick i = trying s tick i (cond (isPlain (stateAt s i)) (cond (room rank s i) 0 6) 4)
+
+-- ---- the answers
+
+-- 'A refused event changes no part of the session, the last tick included, and lists no admission.'
+abbrev pub refused : Session → ℕ → Answer
+refused s k = record { said = No k; admitted = none; session = s }
+
+-- an accepted event with no scan
+abbrev pub still : Said → Session → Answer
+still said s = record { said = said; admitted = none; session = s }
+
+-- an accepted event, 'and a scan follows'
+abbrev pub scanning : Ranking → Said → Session → Answer
+scanning rank said s = record { said = said; admitted = scan rank s .admitted; session = scan rank s .session }
+
+-- 'arrive: absent becomes plain, releases 0, last arrival set.'
+abbrev pub arrived : Task → ℕ → Task
+arrived t tick = record { terms = t .terms; state = Plain; arrival = At tick; releases = 0 }
+
+unfoldable pub arrive : Session → ℕ → ℕ → Answer
+unfolding arriveNumber
+arrive s tick i =
+    cond (eqb (arriveNumber s tick i) 0)
+    (still Ok (withTask (stamped s tick) i (arrived (taskAt s i) tick)))
+    (refused s (arriveNumber s tick i))
+
+-- one more release, and the state that it leads to
+abbrev pub released : Task → State → Task
+released t state = record { terms = t .terms; state = state; arrival = t .arrival; releases = t .releases + 1 }
+
+abbrev pub releasedInto : Session → ℕ → ℕ → List ℕ → List ℕ → State → Session
+releasedInto s tick i reads writes state =
+    withSets (withTask (stamped s tick) i (released (taskAt s i) state)) i reads writes
+
+-- 'It clashes with no executing transaction: it becomes executing. Otherwise it becomes waiting with retry count 0, the answer gives the lowest contested
+-- object number, and how many objects are contested, and a scan follows.'
+unfoldable pub release : Ranking → Session → ℕ → ℕ → List ℕ → List ℕ → Answer
+unfolding releaseNumber blocked lowestContested contestedCount scan
+release rank s tick i reads writes =
+    let x = setsOf reads writes in
+    let waits =
+    scanning rank (Wait (lowestContested s x) (contestedCount s x))
+    (releasedInto s tick i reads writes (Waiting (record { release = tick; retries = 0 })))
+    in
+    let runs = still Run (releasedInto s tick i reads writes Executing) in
+    let accepts = cond (blocked s x) waits runs in
+    cond (eqb (releaseNumber rank s tick i) 0) accepts (refused s (releaseNumber rank s tick i))
+
+-- A retry count rises by 1, and stops at the largest that is held. A session that a setup led to never gets there: it takes no more than 1,000,000 events.
+abbrev pub raisedState : State → State
+raisedState Absent = Absent
+raisedState Plain = Plain
+raisedState (Waiting w) = Waiting (record { release = w .release; retries = min (w .retries + 1) 4294967295 })
+raisedState Executing = Executing
+
+abbrev pub raisedTask : Task → Task
+raisedTask t = inState t (raisedState (t .state))
+
+-- 'the retry count of every waiting transaction that clashes with the committed one rises by 1', for the tasks below k
+unfoldable pub raised : Session → Sets → ℕ → List Task
+unfolding clash
+raised s x zero = s .tasks
+raised s x (suc k) =
+    cond (waiting s k && clash x (setsAt s k)) (set (raised s x k) k (raisedTask (taskAt s k))) (raised s x k)
+
+-- the groups of an empty set
+abbrev pub empty : List ℕ
+empty = replicate 4 0
+
+-- 'executing becomes plain', and its sets are gone. 'First the retry count of every waiting transaction that clashes with the committed one rises by 1'
+abbrev pub committed : Session → ℕ → ℕ → Session
+committed s tick i =
+    withSets
+    (withTask (withTasks (stamped s tick) (raised s (setsAt s i) (s .n))) i (inState (taskAt s i) Plain))
+    i
+    empty
+    empty
+
+-- 'then a scan follows.'
+unfoldable pub commit : Ranking → Session → ℕ → ℕ → Answer
+unfolding commitNumber raised scan
+commit rank s tick i =
+    let accepts = scanning rank Ok (committed s tick i) in
+    cond (eqb (commitNumber s tick i) 0) accepts (refused s (commitNumber s tick i))
+
+-- 'finish: a plain task on a processor becomes absent, and a scan follows.' Its releases are '0 while absent'.
+abbrev pub finished : Task → Task
+finished t = record { terms = t .terms; state = Absent; arrival = t .arrival; releases = 0 }
+
+unfoldable pub finish : Ranking → Session → ℕ → ℕ → Answer
+unfolding finishNumber scan
+finish rank s tick i =
+    let accepts = scanning rank Ok (withTask (stamped s tick) i (finished (taskAt s i))) in
+    cond (eqb (finishNumber rank s tick i) 0) accepts (refused s (finishNumber rank s tick i))
+
+-- any event
+unfoldable pub step : Ranking → Session → Event → Answer
+unfolding arrive release commit finish
+step rank s e =
+    elim (e .kind) [
+      | Arrive ↦ arrive s (e .tick) (e .task)
+      | Release ↦ release rank s (e .tick) (e .task) (e .reads) (e .writes)
+      | Commit ↦ commit rank s (e .tick) (e .task)
+      | Finish ↦ finish rank s (e .tick) (e .task)
+    ]

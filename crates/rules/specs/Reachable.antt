@@ -1,0 +1,102 @@
+-- What holds of every session that a setup and events lead to: one record, which the fresh session has and every event keeps.
+use Prim.Native.Nat.{ℕ, _+_, _*_, _≤_, _<_}
+use mathlib.Core.Path.{_≡_}
+use mathlib.Core.Logic.{_⊎_, _≢_}
+use mathlib.Core.Bool.{Bool, true, false}
+use lib.ListN.{length, getD}
+use Rattle.objects.specs.Below.{count}
+use Rattle.objects.specs.Objects.{clash}
+use Rattle.rules.specs.declared.Setup.{Setup}
+use Rattle.rules.specs.declared.Arrival.the-variants.{At}
+use Rattle.rules.specs.declared.Task.{Task}
+use Rattle.rules.specs.declared.Session.{Session}
+use Rattle.rules.specs.declared.Event.{Event}
+use Rattle.rules.specs.Answers.{number}
+use Rattle.rules.specs.Ranking.{Ranking}
+use Rattle.rules.specs.Tasks.{isAbsent, isPlain, isWaiting, isExecuting, retriesOf, taskAt, stateAt, waiting, executing, setsAt, noTask}
+use Rattle.rules.specs.Setup.{setupNumber, fresh, termsNumber}
+use Rattle.rules.specs.Room.{room}
+use Rattle.rules.specs.Contest.{blocked}
+use Rattle.rules.specs.Events.{step}
+
+-- ---- what is asked of a ranking
+
+-- 'so the ranking is strict': no two tasks have one rank
+abbrev pub Strict : Ranking → Type 0
+Strict rank = (t u : Task) (i j : ℕ) → i < 64 → j < 64 → rank t i ≡ rank u j → i ≡ j
+
+-- A rank stays while the job is present: it goes by the terms and the last arrival alone.
+abbrev pub Stays : Ranking → Type 0
+Stays rank = (t u : Task) (i : ℕ) → t .terms ≡ u .terms → t .arrival ≡ u .arrival → rank t i ≡ rank u i
+
+-- ---- the record
+
+-- group g of task i's two sets is empty
+abbrev pub EmptyAt : Session → ℕ → ℕ → Type 0
+EmptyAt s i g = (getD (s .reads) (i * 4 + g) 0 ≡ 0) × (getD (s .writes) (i * 4 + g) 0 ≡ 0)
+
+pub record Sound (rank : Ranking) (s : Session) : Type 0 where
+  -- the tables' sizes
+  pub tasks : length (s .tasks) ≡ 64
+  pub reads : length (s .reads) ≡ 256
+  pub writes : length (s .writes) ≡ 256
+  -- m and n are allowed, and so are the terms of each task
+  pub m-low : 1 ≤ s .m
+  pub m-high : s .m ≤ 16
+  pub n-low : 1 ≤ s .n
+  pub n-high : s .n ≤ 64
+  pub terms : (i : ℕ) → i < s .n → termsNumber (taskAt s i .terms) ≡ 0
+  -- executing transactions never clash with each other, and there are at most m of them
+  pub apart : (i j : ℕ) → i < s .n → j < s .n → i ≢ j → executing s i ≡ true → executing s j ≡ true → clash (setsAt s i) (setsAt s j) ≡ false
+  pub fit : count (s .n) (executing s) ≤ s .m
+  -- a waiting one clashes with an executing one or has no room
+  pub held : (i : ℕ) → i < s .n → waiting s i ≡ true → (blocked s (setsAt s i) ≡ true) ⊎ (room rank s i ≡ false)
+  -- releases are at most what the task allows; a retry count is at most the accepted events; a last arrival is at most the last tick
+  pub releases : (i : ℕ) → i < s .n → taskAt s i .releases ≤ taskAt s i .terms .transactions
+  pub retries : (i : ℕ) → i < s .n → retriesOf (stateAt s i) ≤ s .accepted
+  pub arrivals : (i a : ℕ) → i < s .n → taskAt s i .arrival ≡ At a → a ≤ s .tick
+  pub accepted : s .accepted ≤ 1000000
+  -- the normal form: a task that is neither waiting nor executing has empty groups; an absent task has no releases; a task past n is as in a fresh session
+  pub emptied : (i g : ℕ) → i < 64 → g < 4 → waiting s i ≡ false → executing s i ≡ false → EmptyAt s i g
+  pub gone : (i : ℕ) → i < s .n → isAbsent (stateAt s i) ≡ true → taskAt s i .releases ≡ 0
+  pub past : (i : ℕ) → s .n ≤ i → i < 64 → taskAt s i ≡ noTask
+
+-- a session that a setup and events lead to
+pub data Reachable (rank : Ranking) : Session → Type 0 where
+  started : (u : Setup) → setupNumber u ≡ 0 → Reachable rank (fresh u)
+  stepped : {s : Session} → Reachable rank s → (e : Event) → Reachable rank (step rank s e .session)
+
+-- ---- the statements
+
+abbrev pub FreshSound : Type 0
+FreshSound = (rank : Ranking) (u : Setup) → setupNumber u ≡ 0 → Sound rank (fresh u)
+
+abbrev pub StepSound : Type 0
+StepSound = (rank : Ranking) → Strict rank → Stays rank → (s : Session) (e : Event) → Sound rank s → Sound rank (step rank s e .session)
+
+abbrev pub ReachableSound : Type 0
+ReachableSound = (rank : Ranking) → Strict rank → Stays rank → (s : Session) → Reachable rank s → Sound rank s
+
+-- 'A refused event changes no part of the session': of any session at all
+abbrev pub RefusedSame : Type 0
+RefusedSame = (rank : Ranking) (s : Session) (e : Event) → 1 ≤ number (step rank s e .said) → step rank s e .session ≡ s
+
+-- an accepted event adds 1 to the accepted count, and its tick is the last one
+abbrev pub AcceptedOne : Type 0
+AcceptedOne =
+    (rank : Ranking) (s : Session) (e : Event) → number (step rank s e .said) ≡ 0
+    → (step rank s e .session .accepted ≡ s .accepted + 1) × (step rank s e .session .tick ≡ e .tick)
+
+-- 'There are never more than m', of any session at all
+abbrev pub AdmittedFew : Type 0
+AdmittedFew = (rank : Ranking) (s : Session) (e : Event) → step rank s e .admitted .count ≤ s .m
+
+-- no largest value is ever reached: a retry count, and one more, is below the largest that is held
+abbrev pub RetriesFit : Type 0
+RetriesFit =
+    (rank : Ranking) → Strict rank → Stays rank → (s : Session) → Reachable rank s → (i : ℕ) → i < s .n
+    → retriesOf (stateAt s i) + 1 < 4294967295
+
+-- the base's ranking is such a one
+abbrev pub PriorityStrict : Ranking → Type 0
+PriorityStrict rank = Strict rank × Stays rank

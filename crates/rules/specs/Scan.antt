@@ -1,0 +1,65 @@
+-- The scan: waiting tasks are looked at once each, highest rank first, and admitted where nothing stands against it.
+use Prim.Native.Nat.{ℕ, zero, suc, _+_}
+use mathlib.Core.Bool.{Bool, cond, not, _&&_, _||_}
+use lib.Dec.{eqb, leb, ltb}
+use lib.ListN.{set, replicate}
+use Rattle.objects.specs.Below.{any}
+use Rattle.rules.specs.declared.State.the-variants.{Executing}
+use Rattle.rules.specs.declared.Session.{Session}
+use Rattle.rules.specs.declared.Admissions.{Admissions}
+use Rattle.rules.specs.Ranking.{Ranking}
+use Rattle.rules.specs.Tasks.{taskAt, stateAt, retriesOf, waiting, setsAt, inState, withTask}
+use Rattle.rules.specs.Room.{rankAt, room}
+use Rattle.rules.specs.Contest.{blocked}
+
+-- of the numbers below k that have f, the one with the least r; 64, which is no task, where none has
+unfoldable pub foremost : ℕ → (ℕ → Bool) → (ℕ → ℕ) → ℕ
+foremost zero f r = 64
+foremost (suc k) f r = cond (f k && (eqb (foremost k f r) 64 || ltb (r k) (r (foremost k f r)))) k (foremost k f r)
+
+-- the waiting task that is next in rank, of those whose rank is not below from
+unfoldable pub next : Ranking → Session → ℕ → ℕ
+unfolding foremost
+next rank s from = foremost (s .n) (λ j. waiting s j && leb from (rankAt rank s j)) (rankAt rank s)
+
+-- 'One that clashes with no transaction executing at that moment, and has room at that moment, becomes executing.'
+unfoldable pub admissible : Ranking → Session → ℕ → Bool
+unfolding blocked room
+admissible rank s i = not (blocked s (setsAt s i)) && room rank s i
+
+-- how far a scan has come: the admissions so far, and the session
+pub record Scanned : Type 0 where
+  pub admitted : Admissions
+  pub session : Session
+
+-- no admission
+abbrev pub none : Admissions
+none = record { count = 0; list = replicate 16 (record { task = 0; retries = 0 }) }
+
+-- 'The answer lists the admitted tasks in that order, each with its retry count.'
+abbrev pub listed : Admissions → ℕ → ℕ → Admissions
+listed a i retries = record { count = a .count + 1; list = set (a .list) (a .count) (record { task = i; retries = retries }) }
+
+abbrev pub admit : Scanned → ℕ → Scanned
+admit x i = record {
+  admitted = listed (x .admitted) i (retriesOf (stateAt (x .session) i));
+  session = withTask (x .session) i (inState (taskAt (x .session) i) Executing);
+}
+
+-- 'Ones admitted earlier in the scan count as executing': task i is tried against the session as the scan has made it
+abbrev pub tried : Ranking → Scanned → ℕ → Scanned
+tried rank x i = cond (admissible rank (x .session) i) (admit x i) x
+
+-- 'Waiting tasks are looked at once each, highest rank first': at most k of them, from this rank on
+unfoldable pub look : Ranking → ℕ → ℕ → Scanned → Scanned
+unfolding next admissible
+look rank zero from x = x
+look rank (suc k) from x =
+    let i = next rank (x .session) from in
+    let rest = look rank k (rankAt rank (x .session) i + 1) (tried rank x i) in
+    cond (eqb i 64) x rest
+
+-- 'Scan.' There are at most n to look at.
+unfoldable pub scan : Ranking → Session → Scanned
+unfolding look
+scan rank s = look rank (s .n) 0 (record { admitted = none; session = s })

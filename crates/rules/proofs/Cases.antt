@@ -2,9 +2,31 @@
 use mathlib.Core.Path.{refl}
 use Rattle.rules.specs.Ranking.{byPriority}
 use Rattle.rules.specs.Setup.{fresh}
+use Rattle.rules.specs.Events.{after}
+use Rattle.rules.specs.Sum.{bound}
 use Rattle.rules.specs.Lines.{eventLines}
-use Rattle.rules.specs.Cases.{WholeSession}
+use Rattle.rules.specs.Cases.{WholeSession, WholeSum, DeferredReleaseScans, FinishScans, OneOfTwoAdmitted, CommittedEmpty}
 
 pub whole-session : WholeSession
 unfolding byPriority fresh eventLines
 whole-session = refl
+
+pub whole-sum : WholeSum
+unfolding fresh bound
+whole-sum = refl
+
+pub deferred-release-scans : DeferredReleaseScans
+unfolding byPriority fresh eventLines
+deferred-release-scans = refl
+
+pub finish-scans : FinishScans
+unfolding byPriority fresh eventLines
+finish-scans = refl
+
+pub one-of-two-admitted : OneOfTwoAdmitted
+unfolding byPriority fresh eventLines
+one-of-two-admitted = refl
+
+pub committed-empty : CommittedEmpty
+unfolding byPriority fresh after
+committed-empty = refl

@@ -2,7 +2,7 @@
 use Prim.Native.Nat.{ℕ, _^_}
 use mathlib.Core.Path.{_≡_}
 use mathlib.Core.List.{List, [], _∷_, _++_}
-use lib.ListN.{replicate}
+use lib.ListN.{take, replicate}
 use Rattle.rules.specs.declared.Terms.{Terms}
 use Rattle.rules.specs.declared.Setup.{Setup}
 use Rattle.rules.specs.declared.Kind.{Kind}
@@ -12,7 +12,8 @@ use Rattle.rules.specs.declared.Said.the-variants.{Ok, Run, Wait, No}
 use Rattle.rules.specs.Ranking.{byPriority}
 use Rattle.rules.specs.Tasks.{noTerms}
 use Rattle.rules.specs.Setup.{fresh}
-use Rattle.rules.specs.Events.{empty}
+use Rattle.rules.specs.Events.{empty, after}
+use Rattle.rules.specs.Sum.{bound}
 use Rattle.rules.specs.Lines.{Line, event, admit, end, eventLines}
 
 -- ---- how a case is written down
@@ -56,3 +57,55 @@ wholeLines =
 
 abbrev pub WholeSession : Type 0
 WholeSession = eventLines byPriority (fresh wholeSetup) 0 wholeEvents ≡ wholeLines
+
+-- 'Task 1 waited 4 ticks; the sum is 2×2 + 1×2 = 6.'
+abbrev pub WholeSum : Type 0
+WholeSum = bound (fresh wholeSetup) 1 4 ≡ 6
+
+-- ---- 'Easy to get wrong'
+
+-- tasks whose priorities rise with their numbers, each with one release of one written object a job
+abbrev pub rising : ℕ → List Terms → Setup
+rising m named = setupOf m 4 60 named
+
+abbrev pub fourTasks : List Terms
+fourTasks = terms 10 100 1 ∷ terms 20 100 1 ∷ terms 30 100 1 ∷ terms 40 100 1 ∷ []
+
+abbrev pub writes : ℕ → ℕ → ℕ → Event
+writes tick i b = releaseOf tick i empty (only b)
+
+-- 'Scanning after commits only. With m = 2 and priorities 10, 20, 30, 40 for tasks 0 to 3: 0 executes writing 1; 1 releases writing 1 and waits; 2 executes
+-- writing 2; 3 arrives; 0 commits. Task 1 now clashes with none but has no room, since 3 is plain above it. Task 3 releases writing 2 and waits: that scan
+-- admits task 1, with retry count 1.'
+abbrev pub DeferredReleaseScans : Type 0
+DeferredReleaseScans =
+    eventLines byPriority (fresh (rising 2 fourTasks)) 0
+    (plainEvent Arrive 0 0 ∷ writes 1 0 1 ∷ plainEvent Arrive 2 1 ∷ writes 3 1 1 ∷ plainEvent Arrive 4 2 ∷ writes 5 2 2 ∷ plainEvent Arrive 6 3
+    ∷ plainEvent Commit 7 0 ∷ writes 8 3 2 ∷ [])
+    ≡ event 0 Arrive 0 Ok ∷ event 1 Release 0 Run ∷ event 2 Arrive 1 Ok ∷ event 3 Release 1 (Wait 1 1) ∷ event 4 Arrive 2 Ok ∷ event 5 Release 2 Run
+    ∷ event 6 Arrive 3 Ok ∷ event 7 Commit 0 Ok ∷ event 8 Release 3 (Wait 2 1) ∷ admit 8 1 1 ∷ end 9 0 ∷ []
+
+-- the same, but that 3 finishes: 'a finish and a deferred release scan too, since both can free one'
+abbrev pub FinishScans : Type 0
+FinishScans =
+    eventLines byPriority (fresh (rising 2 fourTasks)) 0
+    (plainEvent Arrive 0 0 ∷ writes 1 0 1 ∷ plainEvent Arrive 2 1 ∷ writes 3 1 1 ∷ plainEvent Arrive 4 2 ∷ writes 5 2 2 ∷ plainEvent Arrive 6 3
+    ∷ plainEvent Commit 7 0 ∷ plainEvent Finish 8 3 ∷ [])
+    ≡ event 0 Arrive 0 Ok ∷ event 1 Release 0 Run ∷ event 2 Arrive 1 Ok ∷ event 3 Release 1 (Wait 1 1) ∷ event 4 Arrive 2 Ok ∷ event 5 Release 2 Run
+    ∷ event 6 Arrive 3 Ok ∷ event 7 Commit 0 Ok ∷ event 8 Finish 3 Ok ∷ admit 8 1 1 ∷ end 9 0 ∷ []
+
+-- 'Testing all waiting ones against the m-set as it was before the scan, and admitting two that clash': 1 and 2 both wait to write what 0 writes; when 0
+-- commits there is room for both, and 2, which ranks higher, is admitted alone
+abbrev pub clashingEvents : List Event
+clashingEvents =
+    plainEvent Arrive 0 0 ∷ writes 1 0 1 ∷ plainEvent Arrive 2 1 ∷ writes 3 1 1 ∷ plainEvent Arrive 4 2 ∷ writes 5 2 1 ∷ plainEvent Commit 6 0 ∷ []
+
+abbrev pub OneOfTwoAdmitted : Type 0
+OneOfTwoAdmitted =
+    eventLines byPriority (fresh (rising 3 fourTasks)) 0 clashingEvents
+    ≡ event 0 Arrive 0 Ok ∷ event 1 Release 0 Run ∷ event 2 Arrive 1 Ok ∷ event 3 Release 1 (Wait 1 1) ∷ event 4 Arrive 2 Ok
+    ∷ event 5 Release 2 (Wait 1 1) ∷ event 6 Commit 0 Ok ∷ admit 6 2 1 ∷ end 7 0 ∷ []
+
+-- 'Letting a task just committed keep its old sets': the four words of task 0's write set are 0 after its commit
+abbrev pub CommittedEmpty : Type 0
+CommittedEmpty = take 4 (after byPriority (fresh (rising 3 fourTasks)) clashingEvents .writes) ≡ empty

@@ -1,6 +1,6 @@
 -- The four events: the number that refuses one, and the answer with the session after it.
 use Prim.Native.Nat.{ℕ, zero, suc, _+_, min}
-use mathlib.Core.List.{List}
+use mathlib.Core.List.{List, [], _∷_}
 use mathlib.Core.Bool.{Bool, true, false, cond, not, _&&_}
 use lib.Dec.{eqb, leb, ltb}
 use lib.ListN.{getD, set, replicate}
@@ -92,16 +92,19 @@ releasedInto s tick i reads writes state =
 
 -- 'It clashes with no executing transaction: it becomes executing. Otherwise it becomes waiting with retry count 0, the answer gives the lowest contested
 -- object number, and how many objects are contested, and a scan follows.'
-unfoldable pub release : Ranking → Session → ℕ → ℕ → List ℕ → List ℕ → Answer
-unfolding releaseNumber blocked lowestContested contestedCount scan
-release rank s tick i reads writes =
+unfoldable pub releaseAccepted : Ranking → Session → ℕ → ℕ → List ℕ → List ℕ → Answer
+unfolding blocked lowestContested contestedCount scan
+releaseAccepted rank s tick i reads writes =
     let x = setsOf reads writes in
-    let waits =
-    scanning rank (Wait (lowestContested s x) (contestedCount s x))
-    (releasedInto s tick i reads writes (Waiting (record { release = tick; retries = 0 })))
-    in
+    let wait = Wait (lowestContested s x) (contestedCount s x) in
+    let waits = scanning rank wait (releasedInto s tick i reads writes (Waiting (record { release = tick; retries = 0 }))) in
     let runs = still Run (releasedInto s tick i reads writes Executing) in
-    let accepts = cond (blocked s x) waits runs in
+    cond (blocked s x) waits runs
+
+unfoldable pub release : Ranking → Session → ℕ → ℕ → List ℕ → List ℕ → Answer
+unfolding releaseNumber releaseAccepted
+release rank s tick i reads writes =
+    let accepts = releaseAccepted rank s tick i reads writes in
     cond (eqb (releaseNumber rank s tick i) 0) accepts (refused s (releaseNumber rank s tick i))
 
 -- A retry count rises by 1, and stops at the largest that is held. A session that a setup led to never gets there: it takes no more than 1,000,000 events.
@@ -128,11 +131,9 @@ empty = replicate 4 0
 -- 'executing becomes plain', and its sets are gone. 'First the retry count of every waiting transaction that clashes with the committed one rises by 1'
 abbrev pub committed : Session → ℕ → ℕ → Session
 committed s tick i =
-    withSets
-    (withTask (withTasks (stamped s tick) (raised s (setsAt s i) (s .n))) i (inState (taskAt s i) Plain))
-    i
-    empty
-    empty
+    let raisedSession = withTasks (stamped s tick) (raised s (setsAt s i) (s .n)) in
+    let plainSession = withTask raisedSession i (inState (taskAt s i) Plain) in
+    withSets plainSession i empty empty
 
 -- 'then a scan follows.'
 unfoldable pub commit : Ranking → Session → ℕ → ℕ → Answer
@@ -161,3 +162,9 @@ step rank s e =
       | Commit ↦ commit rank s (e .tick) (e .task)
       | Finish ↦ finish rank s (e .tick) (e .task)
     ]
+
+-- the session after a list of events
+unfoldable pub after : Ranking → Session → List Event → Session
+unfolding step
+after rank s [] = s
+after rank s (e ∷ more) = after rank (step rank s e .session) more

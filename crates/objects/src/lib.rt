@@ -2,6 +2,9 @@
 ghost use mathlib.Core.Path.{_≡_};
 ghost use Rattle.objects.specs.Objects.{contestedWord, groupContested, groupsAt, lowestObject, howMany};
 
+// The four groups of a set of objects: object b is bit b mod 64 of word ⌊b/64⌋.
+pub type Groups = [u64; 4];
+
 // The objects of one group on which two transactions clash, from their words of that group: reads and writes of the first, then of the second.
 pub fn contested_word(reads: u64, writes: u64, other_reads: u64, other_writes: u64) -> u64
     ensures { λ word. ⌜ word ≡ contestedWord reads writes «other_reads» «other_writes» ⌝ }
@@ -17,7 +20,7 @@ pub fn group_contested(reads: u64, writes: u64, other_reads: u64, other_writes: 
 }
 
 // The lowest object of four groups, and 0 where they hold none.
-pub fn lowest_object(words: [u64; 4]) -> u8
+pub fn lowest_object(words: Groups) -> u8
     ensures { λ object. ⌜ object ≡ lowestObject (groupsAt words 0) ⌝ }
 {
     for g in 0..4 {
@@ -30,7 +33,7 @@ pub fn lowest_object(words: [u64; 4]) -> u8
 }
 
 // How many objects four groups hold.
-pub fn how_many(words: [u64; 4]) -> u16
+pub fn how_many(words: Groups) -> u16
     ensures { λ number. ⌜ number ≡ howMany (groupsAt words 0) ⌝ }
 {
     let mut number: u32 = 0;

@@ -2,6 +2,7 @@
 pub mod Laws
 pub mod Cases
 pub mod Ranking
+pub mod Start
 pub mod Accepted
 pub mod Fresh
 pub mod Events

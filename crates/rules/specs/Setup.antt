@@ -2,7 +2,7 @@
 use Prim.Native.Nat.{ℕ, zero, suc}
 use mathlib.Core.Path.{_≡_}
 use mathlib.Core.List.{List}
-use mathlib.Core.Bool.{Bool, cond, not, _&&_}
+use mathlib.Core.Bool.{Bool, true, cond, not, _&&_}
 use lib.Dec.{eqb}
 use lib.ListN.{getD, set, replicate}
 use Rattle.objects.specs.Below.{all}
@@ -71,3 +71,7 @@ sameTerms t t′ = eqb (t .priority) (t′ .priority) && eqb (t .period) (t′ .
 unfoldable pub sameSetup : Setup → Setup → Bool
 unfolding all
 sameSetup u u′ = eqb (u .m) (u′ .m) && eqb (u .n) (u′ .n) && all (u .n) (λ i. sameTerms (termsAt u i) (termsAt u′ i))
+
+-- equal setups start the same session
+abbrev pub SameStart : Type 0
+SameStart = (u u′ : Setup) → sameSetup u u′ ≡ true → start u ≡ start u′

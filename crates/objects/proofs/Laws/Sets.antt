@@ -45,7 +45,7 @@ any-object set =
     ∙ any-ext 4 (λ g. any 64 (λ i. has set (g * 64 + i))) (λ g. any 64 (bit (set g)))
     (λ g l. any-ext 64 (λ i. has set (g * 64 + i)) (bit (set g)) (has-split set g))
 
-lowest-some : (set : Groups) → any 256 (has set) ≡ true → lowestObject set ≡ least 256 (has set)
+pub lowest-some : (set : Groups) → any 256 (has set) ≡ true → lowestObject set ≡ least 256 (has set)
 unfolding lowestObject
 lowest-some set e = ap (λ (b : Bool). cond b (least 256 (has set)) 0) e
 

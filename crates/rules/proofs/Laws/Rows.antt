@@ -66,11 +66,11 @@ has-agree : (a b : Groups) → SameGroups a b → (o : ℕ) → o < 256 → has 
 unfolding has
 has-agree a b same o l = ap (λ (w : ℕ). bit w (o % 64)) (same (o / 64) (omega arith))
 
-clash-is : (x y : Sets) → clash x y ≡ any 256 (clashOn x y)
+pub clash-is : (x y : Sets) → clash x y ≡ any 256 (clashOn x y)
 unfolding clash
 clash-is x y = refl
 
-on-agree : (x y z v : Sets) → Agree x z → Agree y v → (o : ℕ) → o < 256 → clashOn x y o ≡ clashOn z v o
+pub on-agree : (x y z v : Sets) → Agree x z → Agree y v → (o : ℕ) → o < 256 → clashOn x y o ≡ clashOn z v o
 unfolding clashOn
 on-agree x y z v p q o l =
     rw (

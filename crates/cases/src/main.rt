@@ -1,0 +1,192 @@
+// Document 01's worked cases, run through the functions: the whole session, the first item under 'Easy to get wrong', and each refusal from 1 to 13, seen with
+// the session that it leaves.
+mod print;
+mod same;
+
+use rules::Event;
+use rules::Kind;
+use rules::Session;
+use rules::Setup;
+use rules::Terms;
+
+// A setup of four tasks, or of the first n of them.
+fn setup_of(m: u8, n: u8, a: Terms, b: Terms, c: Terms, d: Terms) -> Setup {
+    let mut terms = [Terms {
+        priority: 0,
+        period: 0,
+        transactions: 0,
+    }; 64];
+    terms[0] = a;
+    terms[1] = b;
+    terms[2] = c;
+    terms[3] = d;
+    Setup {
+        m: m,
+        n: n,
+        terms: terms,
+    }
+}
+
+fn terms_of(priority: u16, period: u32, transactions: u8) -> Terms {
+    Terms {
+        priority: priority,
+        period: period,
+        transactions: transactions,
+    }
+}
+
+// An event with no sets.
+fn event(kind: Kind, tick: u32, task: u8) -> Event {
+    Event {
+        kind: kind,
+        tick: tick,
+        task: task,
+        reads: [0; 4],
+        writes: [0; 4],
+    }
+}
+
+// A release that reads and writes objects of the first group.
+fn release(tick: u32, task: u8, reads: u64, writes: u64) -> Event {
+    Event {
+        kind: Kind::Release,
+        tick: tick,
+        task: task,
+        reads: [reads, 0, 0, 0],
+        writes: [writes, 0, 0, 0],
+    }
+}
+
+// One event: its lines, and the session after it.
+fn go(s: Session, e: Event) -> Session {
+    let answer = session::step(s, e);
+    print::answer_lines(e, answer);
+    answer.session
+}
+
+// 'A whole session'. Object 4 is 16, object 7 is 128.
+fn whole_session() {
+    let none = terms_of(0, 0, 0);
+    let u = setup_of(
+        2,
+        3,
+        terms_of(10, 100, 2),
+        terms_of(30, 50, 1),
+        terms_of(20, 80, 1),
+        none,
+    );
+    let started = session::setup(u);
+    print::setup_line(u);
+    let mut s = started.session;
+    s = go(s, event(Kind::Arrive, 0, 0));
+    s = go(s, release(1, 0, 0, 16));
+    s = go(s, event(Kind::Arrive, 2, 1));
+    s = go(s, release(3, 1, 16, 128));
+    s = go(s, event(Kind::Arrive, 4, 2));
+    s = go(s, release(5, 2, 0, 128));
+    s = go(s, event(Kind::Commit, 6, 0));
+    s = go(s, event(Kind::Commit, 7, 2));
+    s = go(s, event(Kind::Finish, 8, 0));
+    s = go(s, event(Kind::Commit, 8, 1));
+    s = go(s, event(Kind::Finish, 9, 1));
+    s = go(s, event(Kind::Finish, 10, 0));
+    s = go(s, event(Kind::Finish, 11, 2));
+    s = go(s, event(Kind::Arrive, 12, 1));
+    print::end_line(s.accepted, 2);
+    print::sum_line(session::sum(s, 1, 4));
+    print::sum_line(session::sum(s, 3, 4));
+}
+
+// 'Scanning after commits only': the release that waits at tick 8 admits task 1. Object 1 is 2, object 2 is 4.
+fn deferred_release_scans() {
+    let u = setup_of(
+        2,
+        4,
+        terms_of(10, 100, 1),
+        terms_of(20, 100, 1),
+        terms_of(30, 100, 1),
+        terms_of(40, 100, 1),
+    );
+    let started = session::setup(u);
+    print::setup_line(u);
+    let mut s = started.session;
+    s = go(s, event(Kind::Arrive, 0, 0));
+    s = go(s, release(1, 0, 0, 2));
+    s = go(s, event(Kind::Arrive, 2, 1));
+    s = go(s, release(3, 1, 0, 2));
+    s = go(s, event(Kind::Arrive, 4, 2));
+    s = go(s, release(5, 2, 0, 4));
+    s = go(s, event(Kind::Arrive, 6, 3));
+    s = go(s, event(Kind::Commit, 7, 0));
+    s = go(s, release(8, 3, 0, 4));
+    print::end_line(s.accepted, 0);
+}
+
+// An event that is refused: its line, and whether the session is the same.
+fn refused(s: Session, e: Event) {
+    let answer = session::step(s, e);
+    print::answer_lines(e, answer);
+    let after = answer.session;
+    print::same_line(same::same_session(s, after));
+}
+
+// The refusals 1 to 4, and those of 4 for each event.
+fn first_refusals(fresh: Session) -> Session {
+    refused(fresh, event(Kind::Arrive, 0, 2));
+    let s = go(fresh, event(Kind::Arrive, 5, 0));
+    refused(s, event(Kind::Arrive, 4, 1));
+    let mut full = s;
+    full.accepted = 1000000;
+    refused(full, event(Kind::Arrive, 5, 1));
+    refused(s, event(Kind::Arrive, 6, 0));
+    refused(s, event(Kind::Commit, 6, 0));
+    refused(s, release(6, 1, 0, 1));
+    refused(s, event(Kind::Finish, 6, 1));
+    s
+}
+
+// The refusals 5 to 7. An arrival one whole period after the last is accepted.
+fn last_refusals(before: Session) {
+    let mut s = go(before, event(Kind::Finish, 7, 0));
+    refused(s, event(Kind::Arrive, 104, 0));
+    s = go(s, event(Kind::Arrive, 105, 0));
+    s = go(s, event(Kind::Arrive, 106, 1));
+    refused(s, release(107, 0, 0, 1));
+    refused(s, event(Kind::Finish, 107, 0));
+    s = go(s, release(108, 1, 0, 1));
+    s = go(s, event(Kind::Commit, 109, 1));
+    refused(s, release(110, 1, 0, 1));
+}
+
+// A setup that is refused, and an event on the session that stands in its place.
+fn bad_setup(u: Setup) {
+    let started = session::setup(u);
+    let said = started.said;
+    let s = started.session;
+    print::bad_line(said);
+    refused(s, event(Kind::Arrive, 0, 0));
+}
+
+fn bad_setups(a: Terms, b: Terms) {
+    let none = terms_of(0, 0, 0);
+    bad_setup(setup_of(0, 2, a, b, none, none));
+    bad_setup(setup_of(17, 2, a, b, none, none));
+    bad_setup(setup_of(1, 0, a, b, none, none));
+    bad_setup(setup_of(1, 65, a, b, none, none));
+    bad_setup(setup_of(1, 3, a, b, none, none));
+    bad_setup(setup_of(1, 2, a, terms_of(20, 86400001, 1), none, none));
+    bad_setup(setup_of(1, 2, terms_of(10, 0, 1), none, none, none));
+}
+
+fn main() {
+    whole_session();
+    deferred_release_scans();
+    let none = terms_of(0, 0, 0);
+    let a = terms_of(10, 100, 1);
+    let b = terms_of(20, 50, 1);
+    let started = session::setup(setup_of(1, 2, a, b, none, none));
+    let fresh = started.session;
+    let s = first_refusals(fresh);
+    last_refusals(s);
+    bad_setups(a, b);
+}

@@ -1,0 +1,177 @@
+-- The scan in one loop, one look a turn. Its invariant is Before of Turns: what is left to look at gives the whole scan, and the rows are the session's. The
+-- measure is the looks left. A task that is next is below 64, and where it is admissible fewer than m execute, so that its admission has a place in the list.
+use Prim.Native.Nat.{_-_, _<_}
+use mathlib.Core.Logic.{⊎-elim}
+use native.Mathlib.Nat.{sub-zero}
+use native.Mathlib.Omega.{arith}
+use borrow.Author.Needs.{needs}
+use Rattle.session.proofs.Laws.Turns.{Before, Turn, at-first, next-small, rank-small, place-left, passed, admitted-next, ends, spent}
+use Rattle.session.proofs.scan.scanned.Statement.{statement}
+use Rattle.session.proofs.scan.scanned.Tie as tie
+
+abbrev Inv-loop : tie.InvT-loop
+Inv-loop said n m ranks codes₀ session₀ admitted₀ from₀ counter₀ codes session admitted from counter =
+    Before session₀ ranks (n - counter) codes (record { admitted = admitted; session = session }) from
+
+abbrev μ-loop : tie.MeasureT-loop
+μ-loop said n m ranks codes₀ session₀ admitted₀ from₀ counter₀ codes session admitted from counter = n - counter
+
+-- ---- what is known where a task is next
+
+abbrev start : tie.At-loop Inv-loop μ-loop → tie.Start Inv-loop μ-loop
+start c = c .before .before .before .before .before .before
+
+module _ (c : tie.Else1 Inv-loop μ-loop) where
+  abbrev head : tie.At-loop Inv-loop μ-loop
+  head = c .before .before .before .before .before
+
+  turn : Turn
+      (start head .args .s)
+      (head .before .before .before .before .rows-of .result .ranks)
+      (head .loop .codes)
+      (start head .args .s .n)
+      (head .loop .counter)
+      (head .loop .from)
+      (record { admitted = head .loop .admitted; session = head .loop .session })
+      (c .before .next .result)
+  turn = record {
+    more = c .before .before .before .before .loop-test .taken;
+    before = head .loop .inv;
+    is-next = c .before .next .ensures;
+    some = c .if1 .left;
+  }
+
+  small : c .before .next .result < 64
+  small = next-small turn
+
+abbrev looked-at : tie.After-admissible Inv-loop μ-loop → tie.Else1 Inv-loop μ-loop
+looked-at c = c .before .before .before .before .before .before
+
+-- where it is admissible too, the list has a place left
+place : (c : tie.Then2 Inv-loop μ-loop) → head (looked-at (c .before)) .loop .admitted .count < 16
+place c =
+    place-left (turn (looked-at (c .before))) (c .before .admissible .result) (c .before .admissible .ensures) (c .if2 .taken)
+    (start (head (looked-at (c .before))) .pre .1)
+
+-- ---- the needs
+
+rows-of-requires : tie.Need-rows-of-requires Inv-loop μ-loop
+rows-of-requires c κs = search needs
+
+no-admissions-requires : tie.Need-no-admissions-requires Inv-loop μ-loop
+no-admissions-requires c κs = tt
+
+loop-holds : tie.Need-loop-holds Inv-loop μ-loop
+loop-holds c =
+    let begin = c .before .before .before .before .before in
+    let rows = c .before .before .before .rows-of in
+    rw (c .no-admissions .ensures, sub-zero)
+    (at-first (begin .args .s) (rows .result .codes) (rows .result .ranks) (begin .pre .0) (rows .ensures))
+
+next-requires : tie.Need-next-requires Inv-loop μ-loop
+next-requires c κs = search needs
+
+mul-from : tie.Need-mul-from Inv-loop μ-loop
+mul-from c = omega (arith, small c)
+
+array-read-from : tie.Need-array-read-from Inv-loop μ-loop
+array-read-from c = small c
+
+add-from : tie.Need-add-from Inv-loop μ-loop
+add-from c = omega (arith, rank-small (turn c))
+
+admissible-requires : tie.Need-admissible-requires Inv-loop μ-loop
+admissible-requires c κs =
+    let e = c .before .before .before .before .before in
+    (start (head e) .pre .0, small e)
+
+mul-t : tie.Need-mul-t Inv-loop μ-loop
+mul-t c = omega (arith, small (looked-at (c .before)))
+
+element-copy-out-t : tie.Need-element-copy-out-t Inv-loop μ-loop
+element-copy-out-t c = small (looked-at (c .before))
+
+cast-at : tie.Need-cast-at Inv-loop μ-loop
+cast-at c = omega (arith, place (c .before))
+
+cast-admitted : tie.Need-cast-admitted Inv-loop μ-loop
+cast-admitted c = omega (arith, small (looked-at (c .before .before)))
+
+retries-of-requires : tie.Need-retries-of-requires Inv-loop μ-loop
+retries-of-requires c κs = tt
+
+mul-t30 : tie.Need-mul-t30 Inv-loop μ-loop
+mul-t30 c = omega (arith, place (c .before .before))
+
+element-set-from-admitted : tie.Need-element-set-from-admitted Inv-loop μ-loop
+element-set-from-admitted c = place (c .before .before)
+
+add-admitted : tie.Need-add-admitted Inv-loop μ-loop
+add-admitted c = omega (arith, place (c .before .before))
+
+array-write-codes : tie.Need-array-write-codes Inv-loop μ-loop
+array-write-codes c = small (looked-at (c .before .before .before))
+
+in-state-requires : tie.Need-in-state-requires Inv-loop μ-loop
+in-state-requires c κs = tt
+
+mul-t30-2 : tie.Need-mul-t30-2 Inv-loop μ-loop
+mul-t30-2 c = omega (arith, small (looked-at (c .before .before .before .before)))
+
+element-set-from-session : tie.Need-element-set-from-session Inv-loop μ-loop
+element-set-from-session c = small (looked-at (c .before .before .before .before))
+
+add-counter : tie.Need-add-counter Inv-loop μ-loop
+add-counter c = let e = looked-at (c .before) in omega (arith, turn e .more, start (head e) .pre .0)
+
+loop-less : tie.Need-loop-less Inv-loop μ-loop
+loop-less c = omega (arith, turn (looked-at (c .before)) .more)
+
+loop-again : tie.Need-loop-again Inv-loop μ-loop
+loop-again c =
+    let e = looked-at (c .before) in
+    let asked = c .before .admissible in
+    ⊎-elim
+    (λ w. rw (w .4, w .5, w .6, w .2 .ensures, w .3 .ensures) (admitted-next (turn e) (asked .result) (asked .ensures) (w .0 .taken)))
+    (λ w. rw (w .1, w .2, w .3) (passed (turn e) (asked .result) (asked .ensures) (w .0 .left)))
+    (c .if2 .came)
+
+returns : tie.Need-returns Inv-loop μ-loop
+returns c = spent (start (c .before) .args .said) (c .loop-test .left) (c .before .loop .inv)
+
+returns-2 : tie.Need-returns-2 Inv-loop μ-loop
+returns-2 c =
+    let loop = c .before .before .before .before .before in
+    ends (loop .loop .inv) (start loop .args .said) (c .before .next .result) (c .before .next .ensures) (c .if1 .taken)
+
+pub scanned-spec : {M : Type 1} → statement M
+scanned-spec =
+    tie.close
+    (tie.spec
+    Inv-loop
+    μ-loop
+    rows-of-requires
+    no-admissions-requires
+    loop-holds
+    next-requires
+    mul-from
+    array-read-from
+    add-from
+    admissible-requires
+    mul-t
+    element-copy-out-t
+    cast-at
+    cast-admitted
+    retries-of-requires
+    mul-t30
+    element-set-from-admitted
+    add-admitted
+    array-write-codes
+    in-state-requires
+    mul-t30-2
+    element-set-from-session
+    add-counter
+    loop-less
+    loop-again
+    returns
+    returns-2)

@@ -1,0 +1,278 @@
+// The four events. Each tries its numbers in order, and the first that is given is the answer; else the session moves.
+ghost use mathlib.Core.Path.{_≡_};
+ghost use mathlib.Core.Bool.{true, _&&_};
+ghost use lib.Dec.{ltb};
+ghost use Prim.Native.Nat.{_≤_, _<_};
+ghost use Rattle.rules.specs.Ranking.{byPriority};
+ghost use Rattle.rules.specs.Tasks.{allowed};
+ghost use Rattle.rules.specs.Events.{early, refused, arrive, releaseAccepted, release, commit, finish, step};
+ghost use Rattle.session.specs.Seen.{firstThree, Releasable};
+use crate::rows::in_state;
+use crate::rows::is_waiting;
+use crate::rows::no_admissions;
+use crate::rows::put_groups;
+use crate::rows::raised_task;
+use crate::rows::rows_of;
+use crate::scan::scanned;
+use crate::search::blocked;
+use crate::search::clash_of;
+use crate::search::contested;
+use crate::search::room;
+use rules::Answer;
+use rules::Arrival;
+use rules::Event;
+use rules::Kind;
+use rules::Said;
+use rules::Session;
+use rules::State;
+use rules::Task;
+use rules::Wait;
+
+// Whether m and n are allowed and the task is below n.
+pub(crate) fn known(m: u8, n: u8, task: u8) -> bool
+    ensures { λ yes. ⌜ yes ≡ (allowed 16 m && allowed 64 n && ltb task n) ⌝ }
+{
+    if m == 0 {
+        return false;
+    }
+    if 16 < m {
+        return false;
+    }
+    if n == 0 {
+        return false;
+    }
+    if 64 < n {
+        return false;
+    }
+    task < n
+}
+
+// The numbers that every event tries first, 1 to 3.
+fn first_three(m: u8, n: u8, last: u32, accepted: u32, tick: u32, task: u8) -> u8
+    ensures { λ number. ⌜ number ≡ firstThree m n last accepted tick task ⌝ }
+{
+    if !known(m, n, task) {
+        return 1;
+    }
+    if tick < last {
+        return 2;
+    }
+    if 1000000 <= accepted {
+        return 3;
+    }
+    0
+}
+
+// The answer to a refused event: the session as it was.
+fn refuse(s: Session, number: u8) -> Answer
+    ensures { λ answer. ⌜ answer ≡ refused s number ⌝ }
+{
+    Answer {
+        said: Said::No(number),
+        admitted: no_admissions(),
+        session: s,
+    }
+}
+
+// Whether less than one period has passed since the last arrival.
+fn is_early(arrival: Arrival, period: u32, tick: u32) -> bool
+    ensures { λ yes. ⌜ yes ≡ early arrival period tick ⌝ }
+{
+    match arrival {
+        Arrival::Never => false,
+        Arrival::At(last) => (tick as u64) < last as u64 + period as u64,
+    }
+}
+
+pub fn arrive(s: Session, tick: u32, task: u8) -> Answer
+    ensures { λ answer. ⌜ answer ≡ arrive s tick task ⌝ }
+{
+    let number = first_three(s.m, s.n, s.tick, s.accepted, tick, task);
+    if number != 0 {
+        return refuse(s, number);
+    }
+    let i = task as usize;
+    let t = s.tasks[i];
+    let state = t.state;
+    let State::Absent = state else {
+        return refuse(s, 4);
+    };
+    let terms = t.terms;
+    let arrival = t.arrival;
+    if is_early(arrival, terms.period, tick) {
+        return refuse(s, 5);
+    }
+    let mut session = s;
+    session.tick = tick;
+    session.accepted = s.accepted + 1;
+    session.tasks[i] = Task {
+        terms: terms,
+        state: State::Plain,
+        arrival: Arrival::At(tick),
+        releases: 0,
+    };
+    Answer {
+        said: Said::Ok,
+        admitted: no_admissions(),
+        session: session,
+    }
+}
+
+// A release that no number refuses: its sets are put where they lie, and it runs or waits.
+fn released(
+    s: Session,
+    codes: [u8; 64],
+    tick: u32,
+    i: usize,
+    reads: [u64; 4],
+    writes: [u64; 4],
+) -> Answer
+    requires { ⌜ Releasable s codes i ⌝ }
+    ensures { λ answer. ⌜ answer ≡ releaseAccepted byPriority s tick i reads writes ⌝ }
+{
+    let n = s.n;
+    let t = s.tasks[i];
+    let terms = t.terms;
+    let arrival = t.arrival;
+    let mut session = s;
+    session.tick = tick;
+    session.accepted = s.accepted + 1;
+    put_groups(&mut session.reads, i, reads);
+    put_groups(&mut session.writes, i, writes);
+    if blocked(&codes, &session.reads, &session.writes, n, i) {
+        let words = contested(&codes, &session.reads, &session.writes, n, i);
+        let said = Said::Wait {
+            object: objects::lowest_object(words),
+            contested: objects::how_many(words),
+        };
+        session.tasks[i] = Task {
+            terms: terms,
+            state: State::Waiting(Wait {
+                release: tick,
+                retries: 0,
+            }),
+            arrival: arrival,
+            releases: t.releases + 1,
+        };
+        return scanned(session, said);
+    }
+    session.tasks[i] = Task {
+        terms: terms,
+        state: State::Executing,
+        arrival: arrival,
+        releases: t.releases + 1,
+    };
+    Answer {
+        said: Said::Run,
+        admitted: no_admissions(),
+        session: session,
+    }
+}
+
+pub fn release(s: Session, tick: u32, task: u8, reads: [u64; 4], writes: [u64; 4]) -> Answer
+    ensures { λ answer. ⌜ answer ≡ release byPriority s tick task reads writes ⌝ }
+{
+    let number = first_three(s.m, s.n, s.tick, s.accepted, tick, task);
+    if number != 0 {
+        return refuse(s, number);
+    }
+    let i = task as usize;
+    let t = s.tasks[i];
+    let state = t.state;
+    let State::Plain = state else {
+        return refuse(s, 4);
+    };
+    let tasks = s.tasks;
+    let rows = rows_of(tasks, s.n);
+    let codes = rows.codes;
+    let ranks = rows.ranks;
+    if !room(&codes, &ranks, s.n, s.m, i) {
+        return refuse(s, 6);
+    }
+    let terms = t.terms;
+    if terms.transactions <= t.releases {
+        return refuse(s, 7);
+    }
+    released(s, codes, tick, i, reads, writes)
+}
+
+pub fn commit(s: Session, tick: u32, task: u8) -> Answer
+    ensures { λ answer. ⌜ answer ≡ commit byPriority s tick task ⌝ }
+{
+    let number = first_three(s.m, s.n, s.tick, s.accepted, tick, task);
+    if number != 0 {
+        return refuse(s, number);
+    }
+    let i = task as usize;
+    let t = s.tasks[i];
+    let state = t.state;
+    let State::Executing = state else {
+        return refuse(s, 4);
+    };
+    let end = s.n as usize;
+    let mut session = s;
+    session.tick = tick;
+    session.accepted = s.accepted + 1;
+    for j in 0..end {
+        let other = session.tasks[j];
+        let waits = other.state;
+        if is_waiting(waits) {
+            if clash_of(&session.reads, &session.writes, i, j) {
+                session.tasks[j] = raised_task(other);
+            }
+        }
+    }
+    session.tasks[i] = in_state(t, State::Plain);
+    put_groups(&mut session.reads, i, [0; 4]);
+    put_groups(&mut session.writes, i, [0; 4]);
+    scanned(session, Said::Ok)
+}
+
+pub fn finish(s: Session, tick: u32, task: u8) -> Answer
+    ensures { λ answer. ⌜ answer ≡ finish byPriority s tick task ⌝ }
+{
+    let number = first_three(s.m, s.n, s.tick, s.accepted, tick, task);
+    if number != 0 {
+        return refuse(s, number);
+    }
+    let i = task as usize;
+    let t = s.tasks[i];
+    let state = t.state;
+    let State::Plain = state else {
+        return refuse(s, 4);
+    };
+    let tasks = s.tasks;
+    let rows = rows_of(tasks, s.n);
+    let codes = rows.codes;
+    let ranks = rows.ranks;
+    if !room(&codes, &ranks, s.n, s.m, i) {
+        return refuse(s, 6);
+    }
+    let terms = t.terms;
+    let arrival = t.arrival;
+    let mut session = s;
+    session.tick = tick;
+    session.accepted = s.accepted + 1;
+    session.tasks[i] = Task {
+        terms: terms,
+        state: State::Absent,
+        arrival: arrival,
+        releases: 0,
+    };
+    scanned(session, Said::Ok)
+}
+
+// Any event.
+pub fn step(s: Session, e: Event) -> Answer
+    ensures { λ answer. ⌜ answer ≡ step byPriority s e ⌝ }
+{
+    let kind = e.kind;
+    let reads = e.reads;
+    let writes = e.writes;
+    match kind {
+        Kind::Arrive => arrive(s, e.tick, e.task),
+        Kind::Release => release(s, e.tick, e.task, reads, writes),
+        Kind::Commit => commit(s, e.tick, e.task),
+        Kind::Finish => finish(s, e.tick, e.task),
+    }
+}

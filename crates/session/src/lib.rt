@@ -1,0 +1,19 @@
+// The manager: a session goes in by value and comes back in the answer, and every answer is the one that the rules give.
+//
+// Read in this order: start (a setup), then step (the four events), then scan, search and rows below them.
+mod events;
+mod rows;
+mod scan;
+mod search;
+mod start;
+mod total;
+
+pub use events::arrive;
+pub use events::commit;
+pub use events::finish;
+pub use events::release;
+pub use events::step;
+pub use start::same_setup;
+pub use start::setup;
+pub use start::setup_number;
+pub use total::sum;

@@ -1,5 +1,6 @@
 // The lines of document 01, on standard output.
 use libc::STDOUT_FILENO;
+use rules::Admission;
 use rules::Admissions;
 use rules::Answer;
 use rules::Event;
@@ -54,16 +55,20 @@ pub(crate) fn said_words(said: Said) {
     }
 }
 
+fn admission_line(tick: u32, a: Admission) {
+    number(tick as u64);
+    text(b" admit");
+    then(a.task as u64);
+    then(a.retries as u64);
+    text(b"\n");
+}
+
 fn admission_lines(tick: u32, admitted: Admissions) {
     let count = admitted.count as usize;
     for k in 0..16 {
         if k < count {
             let a = admitted.list[k];
-            number(tick as u64);
-            text(b" admit");
-            then(a.task as u64);
-            then(a.retries as u64);
-            text(b"\n");
+            admission_line(tick, a);
         }
     }
 }

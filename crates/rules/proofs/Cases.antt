@@ -5,7 +5,7 @@ use Rattle.rules.specs.Setup.{fresh}
 use Rattle.rules.specs.Events.{after}
 use Rattle.rules.specs.Sum.{bound}
 use Rattle.rules.specs.Lines.{eventLines}
-use Rattle.rules.specs.Cases.{WholeSession, WholeSum, DeferredReleaseScans, FinishScans, OneOfTwoAdmitted, CommittedEmpty}
+use Rattle.rules.specs.Cases.{WholeSession, WholeSum, DeferredReleaseScans, FinishScans, OneOfTwoAdmitted, CommittedEmpty, UsedUp, OnePeriodLater}
 
 pub whole-session : WholeSession
 unfolding byPriority fresh eventLines
@@ -30,3 +30,11 @@ one-of-two-admitted = refl
 pub committed-empty : CommittedEmpty
 unfolding byPriority fresh after
 committed-empty = refl
+
+pub used-up : UsedUp
+unfolding byPriority fresh eventLines
+used-up = refl
+
+pub one-period-later : OnePeriodLater
+unfolding byPriority fresh eventLines
+one-period-later = refl

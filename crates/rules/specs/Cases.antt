@@ -109,3 +109,18 @@ OneOfTwoAdmitted =
 -- 'Letting a task just committed keep its old sets': the four words of task 0's write set are 0 after its commit
 abbrev pub CommittedEmpty : Type 0
 CommittedEmpty = take 4 (after byPriority (fresh (rising 3 fourTasks)) clashingEvents .writes) ≡ empty
+
+-- ---- at the edge of a refusal
+
+-- '7: release when the job has used its transactions': task 0 has one a job
+abbrev pub UsedUp : Type 0
+UsedUp =
+    eventLines byPriority (fresh (rising 2 fourTasks)) 0 (plainEvent Arrive 0 0 ∷ writes 1 0 1 ∷ plainEvent Commit 2 0 ∷ writes 3 0 1 ∷ [])
+    ≡ event 0 Arrive 0 Ok ∷ event 1 Release 0 Run ∷ event 2 Commit 0 Ok ∷ event 3 Release 0 (No 7) ∷ end 3 1 ∷ []
+
+-- '5: arrive less than one period after the last arrival': the period is 100, and an arrival 100 ticks later is accepted
+abbrev pub OnePeriodLater : Type 0
+OnePeriodLater =
+    eventLines byPriority (fresh (rising 2 fourTasks)) 0
+    (plainEvent Arrive 5 0 ∷ plainEvent Finish 6 0 ∷ plainEvent Arrive 104 0 ∷ plainEvent Arrive 105 0 ∷ [])
+    ≡ event 5 Arrive 0 Ok ∷ event 6 Finish 0 Ok ∷ event 104 Arrive 0 (No 5) ∷ event 105 Arrive 0 Ok ∷ end 3 1 ∷ []

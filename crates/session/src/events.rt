@@ -134,6 +134,7 @@ fn released(
     let t = s.tasks[i];
     let terms = t.terms;
     let arrival = t.arrival;
+    let releases = t.releases + 1;
     let mut session = s;
     session.tick = tick;
     session.accepted = s.accepted + 1;
@@ -152,7 +153,7 @@ fn released(
                 retries: 0,
             }),
             arrival: arrival,
-            releases: t.releases + 1,
+            releases: releases,
         };
         return scanned(session, said);
     }
@@ -160,7 +161,7 @@ fn released(
         terms: terms,
         state: State::Executing,
         arrival: arrival,
-        releases: t.releases + 1,
+        releases: releases,
     };
     Answer {
         said: Said::Run,

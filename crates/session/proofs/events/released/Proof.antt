@@ -9,13 +9,16 @@ use Rattle.session.proofs.events.released.Tie as tie
 
 -- where the function begins
 abbrev start-of : tie.After-blocked → tie.Start
-start-of c = c .before .before .before .before .before .before .before .before .before .before .before
+start-of c = c .before .before .before .before .before .before .before .before .before .before .before .before
 
 mul-t : tie.Need-mul-t
 mul-t c = search needs
 
 element-copy-out-t : tie.Need-element-copy-out-t
 element-copy-out-t c = search needs
+
+add-releases : tie.Need-add-releases
+add-releases c = search needs
 
 add-session : tie.Need-add-session
 add-session c = search needs
@@ -38,11 +41,8 @@ lowest-object-requires c κs = search needs
 how-many-requires : tie.Need-how-many-requires
 how-many-requires c κs = search needs
 
-add-t33 : tie.Need-add-t33
-add-t33 c = search needs
-
-mul-t38 : tie.Need-mul-t38
-mul-t38 c = search needs
+mul-t39 : tie.Need-mul-t39
+mul-t39 c = search needs
 
 element-set-from-session : tie.Need-element-set-from-session
 element-set-from-session c = search needs
@@ -52,7 +52,7 @@ scanned-requires c κs = search needs
 
 returns : tie.Need-returns
 returns c =
-    let found = c .before .before .before .before in
+    let found = c .before .before .before in
     let asked = found .before .before .before .before .before .before in
     let put = asked .before .before .before .before .before in
     let start = start-of asked in
@@ -62,14 +62,11 @@ returns c =
     (put .before .before .put-groups .ensures) (put .put-groups2 .ensures) (a .tick) (found .contested .result) _ _
     (sym (asked .blocked .ensures) ∙ found .before .before .before .before .before .if1 .taken)
     (found .contested .ensures .1)
-    (c .before .before .before .lowest-object .ensures)
-    (c .before .before .how-many .ensures)
+    (c .before .before .lowest-object .ensures)
+    (c .before .how-many .ensures)
 
-add-t43 : tie.Need-add-t43
-add-t43 c = search needs
-
-mul-t16 : tie.Need-mul-t16
-mul-t16 c = search needs
+mul-t17 : tie.Need-mul-t17
+mul-t17 c = search needs
 
 element-set-from-session-2 : tie.Need-element-set-from-session-2
 element-set-from-session-2 c = search needs
@@ -79,13 +76,13 @@ no-admissions-requires c κs = search needs
 
 returns-2 : tie.Need-returns-2
 returns-2 c =
-    let asked = c .before .before .before in
+    let asked = c .before .before in
     let put = asked .before .before .before .before .before in
     let start = start-of asked in
     let a = start .args in
     rw (c .no-admissions .ensures)
     (released-runs (a .t1) (a .t2) (a .i) (a .reads) (a .writes) _ _ (sizes (a .t1) _ (start .good .0)) (start .pre)
-    (put .before .before .put-groups .ensures) (put .put-groups2 .ensures) (a .tick) (sym (asked .blocked .ensures) ∙ c .before .before .if1 .left))
+    (put .before .before .put-groups .ensures) (put .put-groups2 .ensures) (a .tick) (sym (asked .blocked .ensures) ∙ c .before .if1 .left))
 
 pub released-spec : {M : Type 1} → statement M
 released-spec =
@@ -93,6 +90,7 @@ released-spec =
     (tie.spec
     mul-t
     element-copy-out-t
+    add-releases
     add-session
     put-groups-requires
     put-groups-requires-2
@@ -100,13 +98,11 @@ released-spec =
     contested-requires
     lowest-object-requires
     how-many-requires
-    add-t33
-    mul-t38
+    mul-t39
     element-set-from-session
     scanned-requires
     returns
-    add-t43
-    mul-t16
+    mul-t17
     element-set-from-session-2
     no-admissions-requires
     returns-2)

@@ -21,7 +21,7 @@ use Rattle.rules.proofs.Laws.Numbers.{must, allowed-bounds}
 
 -- ---- a setup that is accepted
 
-terms-good : (u : Setup) (k : ℕ) → firstNumber u k ≡ 0 → (i : ℕ) → i < k → termsNumber (termsAt u i) ≡ 0
+pub terms-good : (u : Setup) (k : ℕ) → firstNumber u k ≡ 0 → (i : ℕ) → i < k → termsNumber (termsAt u i) ≡ 0
 unfolding firstNumber
 terms-good u zero e i l = absurd (not-suc-le-zero l)
 terms-good u (suc k) e i l = go (λ z. terms-good u k z i) (eqb (firstNumber u k) 0) refl e
@@ -108,3 +108,8 @@ module _ (rank : Ranking) (u : Setup) (good : setupNumber u ≡ 0) where
 
 pub fresh-sound : FreshSound
 fresh-sound = fresh-is-sound
+
+-- a setup that is accepted has no more tasks than the table
+pub n-within : (u : Setup) → setupNumber u ≡ 0 → u .n ≤ 64
+unfolding fresh
+n-within u e = fresh-sound (λ t i. i) u e .n-high

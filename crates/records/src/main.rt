@@ -1,0 +1,105 @@
+// The log by its smallest bytes: each refusal from 20 to 28, each place of a record in a log, and each kind there and back.
+mod back;
+mod print;
+
+use log::Cursor;
+
+// The number of the record at a place.
+fn read(bytes: &[u8], at: usize) {
+    print::found(log::read(bytes, at));
+}
+
+// The number of a whole log, and how many events were read.
+fn whole(bytes: &[u8]) {
+    let answer = log::read_whole(bytes);
+    print::text(b"log");
+    print::then(answer.number as u64);
+    print::then(answer.events as u64);
+    print::text(b"\n");
+}
+
+// One record, tried in order: 27, 20, 21, 20, 22, 23, 10 to 13.
+fn records() {
+    read(b"", 0);
+    read(b"\x04\x00\x06\x00\x00\x00\x00\x00", 8);
+    read(b"\x04\x00\x06\x00\x00\x00\x00\x00", 18446744073709551615);
+    read(b"\x00", 0);
+    read(b"\x00\x00\x02", 0);
+    read(b"\x00\x00\x00\x00", 0);
+    read(b"\x00\x00\x07\x00", 0);
+    read(b"\xff\xff\xff\xff", 0);
+    read(b"\x05\x00\x02\x00", 0);
+    read(b"\x05\x00\x02\x00\x00\x00\x00\x00", 0);
+    read(b"\x00\x00\x02\x00", 0);
+    read(b"\x05\x00\x03\x00\x00\x00\x00\x00\x00", 0);
+    read(b"\x00\x00\x01\x00", 0);
+    read(b"\x01\x00\x01\x00\x01", 0);
+    read(b"\x02\x00\x01\x00\x01\x01", 0);
+    read(
+        b"\x0a\x00\x01\x00\x01\x01\x01\x00\x01\x00\x00\x00\x01\x01",
+        0,
+    );
+    read(b"\x02\x00\x01\x00\x00\x00", 0);
+    read(b"\x02\x00\x01\x00\x01\x00", 0);
+    read(
+        b"\x0a\x00\x01\x00\x01\x01\x00\x00\x01\x00\x00\x00\x01\x00",
+        0,
+    );
+    read(
+        b"\x0a\x00\x01\x00\x01\x01\x01\x00\x00\x00\x00\x00\x01\x00",
+        0,
+    );
+    read(
+        b"\x0a\x00\x01\x00\x01\x01\x01\x00\x01\x00\x00\x00\x01\x00",
+        0,
+    );
+    read(b"\x05\x00\x04\x00\x07\x00\x00\x00\x03", 0);
+    read(b"\x04\x00\x06\x00\x02\x00\x00\x00", 0);
+}
+
+// Whole logs: 27, 24, 24, 25, 26, and two good ones.
+fn logs() {
+    whole(b"");
+    whole(b"\x0a\x00\x01\x00\x01\x01\x01\x00\x01\x00\x00\x00\x01\x00");
+    whole(b"\x04\x00\x06\x00\x00\x00\x00\x00");
+    whole(
+        b"\x0a\x00\x01\x00\x01\x01\x01\x00\x01\x00\x00\x00\x01\x00\x0a\x00\x01\x00\x01\x01\x01\x00\x01\x00\x00\x00\x01\x00",
+    );
+    whole(
+        b"\x0a\x00\x01\x00\x01\x01\x01\x00\x01\x00\x00\x00\x01\x00\x04\x00\x06\x00\x01\x00\x00\x00",
+    );
+    whole(
+        b"\x0a\x00\x01\x00\x01\x01\x01\x00\x01\x00\x00\x00\x01\x00\x04\x00\x06\x00\x00\x00\x00\x00\x00",
+    );
+    whole(
+        b"\x0a\x00\x01\x00\x01\x01\x01\x00\x01\x00\x00\x00\x01\x00\x04\x00\x06\x00\x00\x00\x00\x00",
+    );
+    whole(
+        b"\x0a\x00\x01\x00\x01\x01\x01\x00\x01\x00\x00\x00\x01\x00\x05\x00\x02\x00\x00\x00\x00\x00\x00\x04\x00\x06\x00\x01\x00\x00\x00",
+    );
+}
+
+// An event after the 4,294,967,295th, which no test could reach by reading.
+fn full_log() {
+    let full = Cursor {
+        at: 0,
+        started: true,
+        events: 4294967295,
+    };
+    print::step(log::next_step(b"\x05\x00\x02\x00\x00\x00\x00\x00\x00", full));
+    let room = Cursor {
+        at: 0,
+        started: true,
+        events: 4294967294,
+    };
+    print::step(log::next_step(b"\x05\x00\x02\x00\x00\x00\x00\x00\x00", room));
+}
+
+fn main() {
+    records();
+    logs();
+    full_log();
+    back::no_room();
+    back::bad_setups();
+    back::each_kind();
+}

@@ -2,7 +2,11 @@
 use Prim.Native.Nat.{ℕ, _<_}
 use mathlib.Core.Path.{_≡_}
 use mathlib.Core.Bool.{true, false}
-use Rattle.objects.specs.Objects.{Groups, Sets, clash, Clash, nothing}
+use Rattle.objects.specs.Objects.{Groups, Sets, clashOn, clash, ClashOn, Clash, nothing}
+
+-- the decided clash on an object is the one said plainly
+abbrev pub ClashOnPlain : Type 0
+ClashOnPlain = (x y : Sets) (b : ℕ) → b < 256 → (clashOn x y b ≡ true → ClashOn x y b) × (ClashOn x y b → clashOn x y b ≡ true)
 
 -- the decided clash is the one said plainly
 abbrev pub ClashPlain : Type 0

@@ -7,3 +7,4 @@ pub mod Accepted
 pub mod Fresh
 pub mod Events
 pub mod Reachable
+pub mod Contest

@@ -1,8 +1,9 @@
 -- A transaction against those that are executing.
-use Prim.Native.Nat.{ℕ}
-use mathlib.Core.Bool.{Bool, _&&_}
+use Prim.Native.Nat.{ℕ, _<_}
+use mathlib.Core.Path.{_≡_}
+use mathlib.Core.Bool.{Bool, true, _&&_}
 use Rattle.objects.specs.Below.{any, count, least}
-use Rattle.objects.specs.Objects.{Sets, clash, clashOn}
+use Rattle.objects.specs.Objects.{Sets, clash, clashOn, Clash, ClashOn}
 use Rattle.rules.specs.declared.Session.{Session}
 use Rattle.rules.specs.Tasks.{executing, setsAt}
 
@@ -26,3 +27,17 @@ lowestContested s x = least 256 (contestedOn s x)
 unfoldable pub contestedCount : Session → Sets → ℕ
 unfolding count contestedOn
 contestedCount s x = count 256 (contestedOn s x)
+
+-- The same said plainly: there is an executing task below n with which it clashes, or with which it clashes on this object.
+abbrev pub Blocked : Session → Sets → Type 0
+Blocked s x = (j : ℕ) × (j < s .n) × (executing s j ≡ true) × Clash x (setsAt s j)
+
+abbrev pub ContestedOn : Session → Sets → ℕ → Type 0
+ContestedOn s x b = (j : ℕ) × (j < s .n) × (executing s j ≡ true) × ClashOn x (setsAt s j) b
+
+abbrev pub BlockedPlain : Type 0
+BlockedPlain = (s : Session) (x : Sets) → (blocked s x ≡ true → Blocked s x) × (Blocked s x → blocked s x ≡ true)
+
+abbrev pub ContestedPlain : Type 0
+ContestedPlain =
+    (s : Session) (x : Sets) (b : ℕ) → b < 256 → (contestedOn s x b ≡ true → ContestedOn s x b) × (ContestedOn s x b → contestedOn s x b ≡ true)

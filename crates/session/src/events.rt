@@ -18,6 +18,7 @@ use crate::search::blocked;
 use crate::search::clash_of;
 use crate::search::contested;
 use crate::search::room;
+use objects::Groups;
 use rules::Answer;
 use rules::Arrival;
 use rules::Event;
@@ -124,8 +125,8 @@ fn released(
     codes: [u8; 64],
     tick: u32,
     i: usize,
-    reads: [u64; 4],
-    writes: [u64; 4],
+    reads: Groups,
+    writes: Groups,
 ) -> Answer
     requires { ⌜ Releasable s codes i ⌝ }
     ensures { λ answer. ⌜ answer ≡ releaseAccepted byPriority s tick i reads writes ⌝ }
@@ -170,7 +171,7 @@ fn released(
     }
 }
 
-pub fn release(s: Session, tick: u32, task: u8, reads: [u64; 4], writes: [u64; 4]) -> Answer
+pub fn release(s: Session, tick: u32, task: u8, reads: Groups, writes: Groups) -> Answer
     ensures { λ answer. ⌜ answer ≡ release byPriority s tick task reads writes ⌝ }
 {
     let number = first_three(s.m, s.n, s.tick, s.accepted, tick, task);

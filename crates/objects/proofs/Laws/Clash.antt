@@ -8,7 +8,7 @@ use lib.Dec.{eqb}
 use lib.Bits.{bitAnd, bitOr, and-lt, or-lt}
 use Rattle.objects.specs.Below.{any}
 use Rattle.objects.specs.Objects.{Groups, Sets, bit, has, contended, clashOn, clash, Has, ClashOn, nothing, contestedWord, groupContested}
-use Rattle.objects.specs.Laws.{ClashPlain, ClashSymmetric, ReadersAgree, EmptyAgrees, NothingAgrees}
+use Rattle.objects.specs.Laws.{ClashOnPlain, ClashPlain, ClashSymmetric, ReadersAgree, EmptyAgrees, NothingAgrees}
 use Rattle.objects.proofs.Laws.Below.{or-cases, or-left, or-right, and-left, and-right, and-both, any-ext, any-none, any-at, any-witness, any-blocks}
 use Rattle.objects.proofs.Laws.Bits.{bit-and, bit-or, bit-word, word-lt, word-eq, any-bit, zero-none, none-zero, bit-set, set-bit}
 use Rattle.objects.proofs.Laws.Sets.{has-split, has-none}
@@ -149,6 +149,9 @@ plain-on x y b c =
     and-both (first && second) (has (x .writes) b || has (y .writes) b)
     (and-both first second (plain-either (x .reads) (x .writes) b (c .inFirst)) (plain-either (y .reads) (y .writes) b (c .inSecond)))
     (plain-either (x .writes) (y .writes) b (c .written))
+
+pub clash-on-plain : ClashOnPlain
+clash-on-plain x y b l = (on-plain x y b l, plain-on x y b)
 
 pub clash-plain : ClashPlain
 clash-plain x y = (

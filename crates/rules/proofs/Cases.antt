@@ -5,7 +5,7 @@ use Rattle.rules.specs.Setup.{fresh}
 use Rattle.rules.specs.Events.{after}
 use Rattle.rules.specs.Sum.{bound}
 use Rattle.rules.specs.Lines.{eventLines}
-use Rattle.rules.specs.Cases.{WholeSession, WholeSum, DeferredReleaseScans, FinishScans, OneOfTwoAdmitted, CommittedEmpty, UsedUp, OnePeriodLater}
+use Rattle.rules.specs.Cases.{WholeSession, WholeSum, DeferredReleaseScans, FinishScans, OneOfTwoAdmitted, CommittedEmpty, OnlyClashingCommits, UsedUp, OnePeriodLater}
 
 pub whole-session : WholeSession
 unfolding byPriority fresh eventLines
@@ -30,6 +30,10 @@ one-of-two-admitted = refl
 pub committed-empty : CommittedEmpty
 unfolding byPriority fresh after
 committed-empty = refl
+
+pub only-clashing-commits : OnlyClashingCommits
+unfolding byPriority fresh eventLines
+only-clashing-commits = refl
 
 pub used-up : UsedUp
 unfolding byPriority fresh eventLines

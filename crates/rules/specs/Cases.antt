@@ -110,6 +110,16 @@ OneOfTwoAdmitted =
 abbrev pub CommittedEmpty : Type 0
 CommittedEmpty = take 4 (after byPriority (fresh (rising 3 fourTasks)) clashingEvents .writes) ≡ empty
 
+-- 'the retry count of every waiting transaction that clashes with the committed one rises by 1', and of no other: 2 commits while 1 waits for 0, and does not clash
+-- with it
+abbrev pub OnlyClashingCommits : Type 0
+OnlyClashingCommits =
+    eventLines byPriority (fresh (rising 3 fourTasks)) 0
+    (plainEvent Arrive 0 0 ∷ writes 1 0 1 ∷ plainEvent Arrive 2 1 ∷ writes 3 1 1 ∷ plainEvent Arrive 4 2 ∷ writes 5 2 2 ∷ plainEvent Commit 6 2
+    ∷ plainEvent Commit 7 0 ∷ [])
+    ≡ event 0 Arrive 0 Ok ∷ event 1 Release 0 Run ∷ event 2 Arrive 1 Ok ∷ event 3 Release 1 (Wait 1 1) ∷ event 4 Arrive 2 Ok ∷ event 5 Release 2 Run
+    ∷ event 6 Commit 2 Ok ∷ event 7 Commit 0 Ok ∷ admit 7 1 1 ∷ end 8 0 ∷ []
+
 -- ---- at the edge of a refusal
 
 -- '7: release when the job has used its transactions': task 0 has one a job

@@ -85,7 +85,7 @@ fn is_early(arrival: Arrival, period: u32, tick: u32) -> bool
     }
 }
 
-pub fn arrive(s: Session, tick: u32, task: u8) -> Answer
+pub fn arrive(mut s: Session, tick: u32, task: u8) -> Answer
     ensures { λ answer. ⌜ answer ≡ arrive s tick task ⌝ }
 {
     let number = first_three(s.m, s.n, s.tick, s.accepted, tick, task);
@@ -103,10 +103,9 @@ pub fn arrive(s: Session, tick: u32, task: u8) -> Answer
     if is_early(arrival, terms.period, tick) {
         return refuse(s, 5);
     }
-    let mut session = s;
-    session.tick = tick;
-    session.accepted = s.accepted + 1;
-    session.tasks[i] = Task {
+    s.tick = tick;
+    s.accepted = s.accepted + 1;
+    s.tasks[i] = Task {
         terms: terms,
         state: State::Plain,
         arrival: Arrival::At(tick),
@@ -115,7 +114,7 @@ pub fn arrive(s: Session, tick: u32, task: u8) -> Answer
     Answer {
         said: Said::Ok,
         admitted: no_admissions(),
-        session: session,
+        session: s,
     }
 }
 

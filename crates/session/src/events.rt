@@ -229,7 +229,7 @@ pub fn commit(s: Session, tick: u32, task: u8) -> Answer
     scanned(session, Said::Ok)
 }
 
-pub fn finish(s: Session, tick: u32, task: u8) -> Answer
+pub fn finish(mut s: Session, tick: u32, task: u8) -> Answer
     ensures { λ answer. ⌜ answer ≡ finish byPriority s tick task ⌝ }
 {
     let number = first_three(s.m, s.n, s.tick, s.accepted, tick, task);
@@ -251,16 +251,15 @@ pub fn finish(s: Session, tick: u32, task: u8) -> Answer
     }
     let terms = t.terms;
     let arrival = t.arrival;
-    let mut session = s;
-    session.tick = tick;
-    session.accepted = s.accepted + 1;
-    session.tasks[i] = Task {
+    s.tick = tick;
+    s.accepted = s.accepted + 1;
+    s.tasks[i] = Task {
         terms: terms,
         state: State::Absent,
         arrival: arrival,
         releases: 0,
     };
-    scanned(session, Said::Ok)
+    scanned(s, Said::Ok)
 }
 
 // Any event.

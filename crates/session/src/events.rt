@@ -197,7 +197,7 @@ pub fn release(s: Session, tick: u32, task: u8, reads: Groups, writes: Groups) -
     released(s, codes, tick, i, reads, writes)
 }
 
-pub fn commit(s: Session, tick: u32, task: u8) -> Answer
+pub fn commit(mut s: Session, tick: u32, task: u8) -> Answer
     ensures { λ answer. ⌜ answer ≡ commit byPriority s tick task ⌝ }
 {
     let number = first_three(s.m, s.n, s.tick, s.accepted, tick, task);
@@ -211,22 +211,21 @@ pub fn commit(s: Session, tick: u32, task: u8) -> Answer
         return refuse(s, 4);
     };
     let end = s.n as usize;
-    let mut session = s;
-    session.tick = tick;
-    session.accepted = s.accepted + 1;
+    s.tick = tick;
+    s.accepted = s.accepted + 1;
     for j in 0..end {
-        let other = session.tasks[j];
+        let other = s.tasks[j];
         let waits = other.state;
         if is_waiting(waits) {
-            if clash_of(&session.reads, &session.writes, i, j) {
-                session.tasks[j] = raised_task(other);
+            if clash_of(&s.reads, &s.writes, i, j) {
+                s.tasks[j] = raised_task(other);
             }
         }
     }
-    session.tasks[i] = in_state(t, State::Plain);
-    put_groups(&mut session.reads, i, [0; 4]);
-    put_groups(&mut session.writes, i, [0; 4]);
-    scanned(session, Said::Ok)
+    s.tasks[i] = in_state(t, State::Plain);
+    put_groups(&mut s.reads, i, [0; 4]);
+    put_groups(&mut s.writes, i, [0; 4]);
+    scanned(s, Said::Ok)
 }
 
 pub fn finish(mut s: Session, tick: u32, task: u8) -> Answer

@@ -120,7 +120,7 @@ pub fn arrive(mut s: Session, tick: u32, task: u8) -> Answer
 
 // A release that no number refuses: its sets are put where they lie, and it runs or waits.
 fn released(
-    s: Session,
+    mut s: Session,
     codes: [u8; 64],
     tick: u32,
     i: usize,
@@ -135,18 +135,17 @@ fn released(
     let terms = t.terms;
     let arrival = t.arrival;
     let releases = t.releases + 1;
-    let mut session = s;
-    session.tick = tick;
-    session.accepted = s.accepted + 1;
-    put_groups(&mut session.reads, i, reads);
-    put_groups(&mut session.writes, i, writes);
-    if blocked(&codes, &session.reads, &session.writes, n, i) {
-        let words = contested(&codes, &session.reads, &session.writes, n, i);
+    s.tick = tick;
+    s.accepted = s.accepted + 1;
+    put_groups(&mut s.reads, i, reads);
+    put_groups(&mut s.writes, i, writes);
+    if blocked(&codes, &s.reads, &s.writes, n, i) {
+        let words = contested(&codes, &s.reads, &s.writes, n, i);
         let said = Said::Wait {
             object: objects::lowest_object(words),
             contested: objects::how_many(words),
         };
-        session.tasks[i] = Task {
+        s.tasks[i] = Task {
             terms: terms,
             state: State::Waiting(Wait {
                 release: tick,
@@ -155,9 +154,9 @@ fn released(
             arrival: arrival,
             releases: releases,
         };
-        return scanned(session, said);
+        return scanned(s, said);
     }
-    session.tasks[i] = Task {
+    s.tasks[i] = Task {
         terms: terms,
         state: State::Executing,
         arrival: arrival,
@@ -166,7 +165,7 @@ fn released(
     Answer {
         said: Said::Run,
         admitted: no_admissions(),
-        session: session,
+        session: s,
     }
 }
 

@@ -85,7 +85,7 @@ fn is_early(arrival: Arrival, period: u32, tick: u32) -> bool
     }
 }
 
-pub fn arrive(s: Session, tick: u32, task: u8) -> Answer
+pub fn arrive(mut s: Session, tick: u32, task: u8) -> Answer
     ensures { λ answer. ⌜ answer ≡ arrive s tick task ⌝ }
 {
     let number = first_three(s.m, s.n, s.tick, s.accepted, tick, task);
@@ -103,10 +103,9 @@ pub fn arrive(s: Session, tick: u32, task: u8) -> Answer
     if is_early(arrival, terms.period, tick) {
         return refuse(s, 5);
     }
-    let mut session = s;
-    session.tick = tick;
-    session.accepted = s.accepted + 1;
-    session.tasks[i] = Task {
+    s.tick = tick;
+    s.accepted = s.accepted + 1;
+    s.tasks[i] = Task {
         terms: terms,
         state: State::Plain,
         arrival: Arrival::At(tick),
@@ -115,13 +114,13 @@ pub fn arrive(s: Session, tick: u32, task: u8) -> Answer
     Answer {
         said: Said::Ok,
         admitted: no_admissions(),
-        session: session,
+        session: s,
     }
 }
 
 // A release that no number refuses: its sets are put where they lie, and it runs or waits.
 fn released(
-    s: Session,
+    mut s: Session,
     codes: [u8; 64],
     tick: u32,
     i: usize,
@@ -136,18 +135,17 @@ fn released(
     let terms = t.terms;
     let arrival = t.arrival;
     let releases = t.releases + 1;
-    let mut session = s;
-    session.tick = tick;
-    session.accepted = s.accepted + 1;
-    put_groups(&mut session.reads, i, reads);
-    put_groups(&mut session.writes, i, writes);
-    if blocked(&codes, &session.reads, &session.writes, n, i) {
-        let words = contested(&codes, &session.reads, &session.writes, n, i);
+    s.tick = tick;
+    s.accepted = s.accepted + 1;
+    put_groups(&mut s.reads, i, reads);
+    put_groups(&mut s.writes, i, writes);
+    if blocked(&codes, &s.reads, &s.writes, n, i) {
+        let words = contested(&codes, &s.reads, &s.writes, n, i);
         let said = Said::Wait {
             object: objects::lowest_object(words),
             contested: objects::how_many(words),
         };
-        session.tasks[i] = Task {
+        s.tasks[i] = Task {
             terms: terms,
             state: State::Waiting(Wait {
                 release: tick,
@@ -156,9 +154,9 @@ fn released(
             arrival: arrival,
             releases: releases,
         };
-        return scanned(session, said);
+        return scanned(s, said);
     }
-    session.tasks[i] = Task {
+    s.tasks[i] = Task {
         terms: terms,
         state: State::Executing,
         arrival: arrival,
@@ -167,7 +165,7 @@ fn released(
     Answer {
         said: Said::Run,
         admitted: no_admissions(),
-        session: session,
+        session: s,
     }
 }
 
@@ -198,7 +196,7 @@ pub fn release(s: Session, tick: u32, task: u8, reads: Groups, writes: Groups) -
     released(s, codes, tick, i, reads, writes)
 }
 
-pub fn commit(s: Session, tick: u32, task: u8) -> Answer
+pub fn commit(mut s: Session, tick: u32, task: u8) -> Answer
     ensures { λ answer. ⌜ answer ≡ commit byPriority s tick task ⌝ }
 {
     let number = first_three(s.m, s.n, s.tick, s.accepted, tick, task);
@@ -212,25 +210,24 @@ pub fn commit(s: Session, tick: u32, task: u8) -> Answer
         return refuse(s, 4);
     };
     let end = s.n as usize;
-    let mut session = s;
-    session.tick = tick;
-    session.accepted = s.accepted + 1;
+    s.tick = tick;
+    s.accepted = s.accepted + 1;
     for j in 0..end {
-        let other = session.tasks[j];
+        let other = s.tasks[j];
         let waits = other.state;
         if is_waiting(waits) {
-            if clash_of(&session.reads, &session.writes, i, j) {
-                session.tasks[j] = raised_task(other);
+            if clash_of(&s.reads, &s.writes, i, j) {
+                s.tasks[j] = raised_task(other);
             }
         }
     }
-    session.tasks[i] = in_state(t, State::Plain);
-    put_groups(&mut session.reads, i, [0; 4]);
-    put_groups(&mut session.writes, i, [0; 4]);
-    scanned(session, Said::Ok)
+    s.tasks[i] = in_state(t, State::Plain);
+    put_groups(&mut s.reads, i, [0; 4]);
+    put_groups(&mut s.writes, i, [0; 4]);
+    scanned(s, Said::Ok)
 }
 
-pub fn finish(s: Session, tick: u32, task: u8) -> Answer
+pub fn finish(mut s: Session, tick: u32, task: u8) -> Answer
     ensures { λ answer. ⌜ answer ≡ finish byPriority s tick task ⌝ }
 {
     let number = first_three(s.m, s.n, s.tick, s.accepted, tick, task);
@@ -252,16 +249,15 @@ pub fn finish(s: Session, tick: u32, task: u8) -> Answer
     }
     let terms = t.terms;
     let arrival = t.arrival;
-    let mut session = s;
-    session.tick = tick;
-    session.accepted = s.accepted + 1;
-    session.tasks[i] = Task {
+    s.tick = tick;
+    s.accepted = s.accepted + 1;
+    s.tasks[i] = Task {
         terms: terms,
         state: State::Absent,
         arrival: arrival,
         releases: 0,
     };
-    scanned(session, Said::Ok)
+    scanned(s, Said::Ok)
 }
 
 // Any event.

@@ -16,7 +16,7 @@ use rules::Session;
 use rules::State;
 
 // The answer that says this, with the admissions of a scan of the session and the session after it.
-pub(crate) fn scanned(s: Session, said: Said) -> Answer
+pub(crate) fn scanned(mut s: Session, said: Said) -> Answer
     requires { ⌜ (s .n ≤ 64) × (s .m ≤ 16) ⌝ }
     ensures { λ answer. ⌜ answer ≡ scanning byPriority said s ⌝ }
 {
@@ -26,7 +26,6 @@ pub(crate) fn scanned(s: Session, said: Said) -> Answer
     let rows = rows_of(tasks, n);
     let ranks = rows.ranks;
     let mut codes = rows.codes;
-    let mut session = s;
     let mut admitted = no_admissions();
     let mut from: u32 = 0;
     for _ in 0..n {
@@ -35,8 +34,8 @@ pub(crate) fn scanned(s: Session, said: Said) -> Answer
             break;
         }
         from = ranks[i] + 1;
-        if admissible(&codes, &ranks, &session.reads, &session.writes, n, m, i) {
-            let t = session.tasks[i];
+        if admissible(&codes, &ranks, &s.reads, &s.writes, n, m, i) {
+            let t = s.tasks[i];
             let state = t.state;
             let at = admitted.count as usize;
             admitted.list[at] = Admission {
@@ -45,12 +44,12 @@ pub(crate) fn scanned(s: Session, said: Said) -> Answer
             };
             admitted.count = admitted.count + 1;
             codes[i] = 3;
-            session.tasks[i] = in_state(t, State::Executing);
+            s.tasks[i] = in_state(t, State::Executing);
         }
     }
     Answer {
         said: said,
         admitted: admitted,
-        session: session,
+        session: s,
     }
 }

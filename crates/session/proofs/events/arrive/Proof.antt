@@ -57,14 +57,14 @@ returns-3 c =
     ∙ sym (arrive-refused (a .t1) (a .tick) (a .task) (first .result) (first .ensures) 5 (b .before .before .before .before .before .if1 .left)
     (simp (b .before .before .enum-told .given .1, sym (b .is-early .ensures) ∙ c .before .if2 .taken)) (omega arith))
 
-add-session : tie.Need-add-session
-add-session c = let p = past (c .before .before .before .before .before .before) in omega arith
+add-s : tie.Need-add-s
+add-s c = let p = past (c .before .before .before .before .before .before) in omega arith
 
-mul-t18 : tie.Need-mul-t18
-mul-t18 c = search needs
+mul-t17 : tie.Need-mul-t17
+mul-t17 c = search needs
 
-element-set-from-session : tie.Need-element-set-from-session
-element-set-from-session c = let p = past (c .before .before .before .before .before .before) in omega arith
+element-set-from-s : tie.Need-element-set-from-s
+element-set-from-s c = let p = past (c .before .before .before .before .before .before) in omega arith
 
 no-admissions-requires : tie.Need-no-admissions-requires
 no-admissions-requires c κs = search needs
@@ -93,8 +93,8 @@ arrive-spec =
     is-early-requires
     refuse-requires-3
     returns-3
-    add-session
-    mul-t18
-    element-set-from-session
+    add-s
+    mul-t17
+    element-set-from-s
     no-admissions-requires
     returns-4)

@@ -18,10 +18,10 @@ use Rattle.session.proofs.events.commit.Statement.{statement}
 use Rattle.session.proofs.events.commit.Tie as tie
 
 abbrev Inv-loop : tie.InvT-loop
-Inv-loop tick task number i t end session₀ j₀ session j = (session ≡ withTasks session₀ (raised session₀ (setsAt session₀ i) j)) × (j ≤ end)
+Inv-loop tick task s₀ number i t end j₀ s j = (s ≡ withTasks s₀ (raised s₀ (setsAt s₀ i) j)) × (j ≤ end)
 
 abbrev μ-loop : tie.MeasureT-loop
-μ-loop tick task number i t end session₀ j₀ session j = end - j
+μ-loop tick task s₀ number i t end j₀ s j = end - j
 
 -- what is known past the first three
 past : (c : tie.Else1 Inv-loop μ-loop) → let a = c .before .before .args in Passed (a .t1) (a .tick) (a .task)
@@ -70,8 +70,8 @@ returns-2 c =
 cast-end : tie.Need-cast-end Inv-loop μ-loop
 cast-end c = let p = past (c .before .before .before) in omega arith
 
-add-session : tie.Need-add-session Inv-loop μ-loop
-add-session c = let p = past (c .before .before .before) in omega arith
+add-s : tie.Need-add-s Inv-loop μ-loop
+add-s c = let p = past (c .before .before .before) in omega arith
 
 loop-holds : tie.Need-loop-holds Inv-loop μ-loop
 loop-holds c = (sym (raised-none _ _), omega arith)
@@ -91,11 +91,11 @@ clash-of-requires c κs = let p = past (tried (c .before .before .before .before
 raised-task-requires : tie.Need-raised-task-requires Inv-loop μ-loop
 raised-task-requires c κs = search needs
 
-mul-t36 : tie.Need-mul-t36 Inv-loop μ-loop
-mul-t36 c = let p = past (tried (c .before .before .before .before .before .before .before .before .before .before)) in omega arith
+mul-t34 : tie.Need-mul-t34 Inv-loop μ-loop
+mul-t34 c = let p = past (tried (c .before .before .before .before .before .before .before .before .before .before)) in omega arith
 
-element-set-from-session : tie.Need-element-set-from-session Inv-loop μ-loop
-element-set-from-session c = let p = past (tried (c .before .before .before .before .before .before .before .before .before .before)) in omega arith
+element-set-from-s : tie.Need-element-set-from-s Inv-loop μ-loop
+element-set-from-s c = let p = past (tried (c .before .before .before .before .before .before .before .before .before .before)) in omega arith
 
 add-j : tie.Need-add-j Inv-loop μ-loop
 add-j c = let p = past (tried (c .before .before .before .before)) in omega arith
@@ -106,15 +106,15 @@ loop-less c = omega arith
 -- the session after a turn, by the three ways through it
 turned : (c : tie.Joined2 Inv-loop μ-loop)
     → let a = tried (c .before .before .before .before) .before .before .args in
-    c .if2 .session
+    c .if2 .s
     ≡ withTasks (stamped (a .t1) (a .tick))
     (raised (stamped (a .t1) (a .tick)) (setsAt (a .t1) (a .task)) (c .before .before .before .before .loop .j + 1))
 turned c =
     let head = c .before .before .before .before in
     let a = tried head .before .before .args in
-    let u = head .loop .session in
+    let u = head .loop .s in
     let k = head .loop .j in
-    let turn = raised-turn (stamped (a .t1) (a .tick)) (a .task) k u (c .if2 .session) (head .loop .inv .0) in
+    let turn = raised-turn (stamped (a .t1) (a .tick)) (a .task) k u (c .if2 .s) (head .loop .inv .0) in
     let asked = sym (c .before .is-waiting .ensures) in
     ⊎-elim
     (λ w.
@@ -132,11 +132,11 @@ loop-again c = (turned c, omega arith)
 in-state-requires : tie.Need-in-state-requires Inv-loop μ-loop
 in-state-requires c κs = search needs
 
-mul-t20 : tie.Need-mul-t20 Inv-loop μ-loop
-mul-t20 c = let p = past (tried (c .before .before)) in omega arith
+mul-t19 : tie.Need-mul-t19 Inv-loop μ-loop
+mul-t19 c = let p = past (tried (c .before .before)) in omega arith
 
-element-set-from-session-2 : tie.Need-element-set-from-session-2 Inv-loop μ-loop
-element-set-from-session-2 c = let p = past (tried (c .before .before)) in omega arith
+element-set-from-s-2 : tie.Need-element-set-from-s-2 Inv-loop μ-loop
+element-set-from-s-2 c = let p = past (tried (c .before .before)) in omega arith
 
 put-groups-requires : tie.Need-put-groups-requires Inv-loop μ-loop
 put-groups-requires c κs = let p = past (tried (c .before .before .before)) in omega arith
@@ -162,7 +162,7 @@ returns-3 c =
     let a = first .before .args in
     c .scanned .ensures
     ∙ ap (scanning byPriority Ok)
-    (committed-is (a .t1) (a .tick) (a .task) (head .loop .j) (head .loop .session) (done .in-state .result) _ _ (head .loop .inv .0) (omega arith)
+    (committed-is (a .t1) (a .tick) (a .task) (head .loop .j) (head .loop .s) (done .in-state .result) _ _ (head .loop .inv .0) (omega arith)
     (done .in-state .ensures) (put .before .before .put-groups .ensures) (put .put-groups2 .ensures))
     ∙ sym (commit-accepted (a .t1) (a .tick) (a .task) (first .first-three .result) (first .first-three .ensures) byPriority (none .if1 .left)
     (simp (head .before .enum-told .given .1)))
@@ -182,21 +182,21 @@ commit-spec =
     refuse-requires-2
     returns-2
     cast-end
-    add-session
+    add-s
     loop-holds
     mul-other
     element-copy-out-other
     is-waiting-requires
     clash-of-requires
     raised-task-requires
-    mul-t36
-    element-set-from-session
+    mul-t34
+    element-set-from-s
     add-j
     loop-less
     loop-again
     in-state-requires
-    mul-t20
-    element-set-from-session-2
+    mul-t19
+    element-set-from-s-2
     put-groups-requires
     put-groups-requires-2
     scanned-requires

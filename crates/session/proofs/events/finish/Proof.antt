@@ -84,14 +84,14 @@ returns-3 c =
     ∙ sym (finish-refused (a .t1) (a .tick) (a .task) (first .first-three .result) (first .first-three .ensures) byPriority 6 (none .if1 .left)
     (simp (told (asked .before) .enum-told .given .1, sym (room-is asked) ∙ not-true _ (c .before .if2 .taken))) (omega arith))
 
-add-session : tie.Need-add-session
-add-session c = let p = past (tried (c .before .before .before)) in omega arith
+add-s : tie.Need-add-s
+add-s c = let p = past (tried (c .before .before .before)) in omega arith
 
-mul-t22 : tie.Need-mul-t22
-mul-t22 c = search needs
+mul-t21 : tie.Need-mul-t21
+mul-t21 c = search needs
 
-element-set-from-session : tie.Need-element-set-from-session
-element-set-from-session c = let p = past (tried (c .before .before .before)) in omega arith
+element-set-from-s : tie.Need-element-set-from-s
+element-set-from-s c = let p = past (tried (c .before .before .before)) in omega arith
 
 scanned-requires : tie.Need-scanned-requires
 scanned-requires c κs = let p = past (tried (c .before .before .before)) in (p .n-high, p .m-high)
@@ -122,8 +122,8 @@ finish-spec =
     room-requires
     refuse-requires-3
     returns-3
-    add-session
-    mul-t22
-    element-set-from-session
+    add-s
+    mul-t21
+    element-set-from-s
     scanned-requires
     returns-4)

@@ -20,8 +20,8 @@ element-copy-out-t c = search needs
 add-releases : tie.Need-add-releases
 add-releases c = search needs
 
-add-session : tie.Need-add-session
-add-session c = search needs
+add-s : tie.Need-add-s
+add-s c = search needs
 
 put-groups-requires : tie.Need-put-groups-requires
 put-groups-requires c κs = search needs
@@ -41,11 +41,11 @@ lowest-object-requires c κs = search needs
 how-many-requires : tie.Need-how-many-requires
 how-many-requires c κs = search needs
 
-mul-t39 : tie.Need-mul-t39
-mul-t39 c = search needs
+mul-t37 : tie.Need-mul-t37
+mul-t37 c = search needs
 
-element-set-from-session : tie.Need-element-set-from-session
-element-set-from-session c = search needs
+element-set-from-s : tie.Need-element-set-from-s
+element-set-from-s c = search needs
 
 scanned-requires : tie.Need-scanned-requires
 scanned-requires c κs = search needs
@@ -65,11 +65,11 @@ returns c =
     (c .before .before .lowest-object .ensures)
     (c .before .how-many .ensures)
 
-mul-t17 : tie.Need-mul-t17
-mul-t17 c = search needs
+mul-t16 : tie.Need-mul-t16
+mul-t16 c = search needs
 
-element-set-from-session-2 : tie.Need-element-set-from-session-2
-element-set-from-session-2 c = search needs
+element-set-from-s-2 : tie.Need-element-set-from-s-2
+element-set-from-s-2 c = search needs
 
 no-admissions-requires : tie.Need-no-admissions-requires
 no-admissions-requires c κs = search needs
@@ -91,18 +91,18 @@ released-spec =
     mul-t
     element-copy-out-t
     add-releases
-    add-session
+    add-s
     put-groups-requires
     put-groups-requires-2
     blocked-requires
     contested-requires
     lowest-object-requires
     how-many-requires
-    mul-t39
-    element-set-from-session
+    mul-t37
+    element-set-from-s
     scanned-requires
     returns
-    mul-t17
-    element-set-from-session-2
+    mul-t16
+    element-set-from-s-2
     no-admissions-requires
     returns-2)

@@ -10,11 +10,11 @@ use Rattle.session.proofs.scan.scanned.Statement.{statement}
 use Rattle.session.proofs.scan.scanned.Tie as tie
 
 abbrev Inv-loop : tie.InvT-loop
-Inv-loop said n m ranks codes₀ session₀ admitted₀ from₀ counter₀ codes session admitted from counter =
-    Before session₀ ranks (n - counter) codes (record { admitted = admitted; session = session }) from
+Inv-loop said s₀ n m ranks codes₀ admitted₀ from₀ counter₀ s codes admitted from counter =
+    Before s₀ ranks (n - counter) codes (record { admitted = admitted; session = s }) from
 
 abbrev μ-loop : tie.MeasureT-loop
-μ-loop said n m ranks codes₀ session₀ admitted₀ from₀ counter₀ codes session admitted from counter = n - counter
+μ-loop said s₀ n m ranks codes₀ admitted₀ from₀ counter₀ s codes admitted from counter = n - counter
 
 -- ---- what is known where a task is next
 
@@ -26,13 +26,13 @@ module _ (c : tie.Else1 Inv-loop μ-loop) where
   head = c .before .before .before .before .before
 
   turn : Turn
-      (start head .args .s)
+      (start head .args .t1)
       (head .before .before .before .before .rows-of .result .ranks)
       (head .loop .codes)
-      (start head .args .s .n)
+      (start head .args .t1 .n)
       (head .loop .counter)
       (head .loop .from)
-      (record { admitted = head .loop .admitted; session = head .loop .session })
+      (record { admitted = head .loop .admitted; session = head .loop .s })
       (c .before .next .result)
   turn = record {
     more = c .before .before .before .before .loop-test .taken;
@@ -66,7 +66,7 @@ loop-holds c =
     let begin = c .before .before .before .before .before in
     let rows = c .before .before .before .rows-of in
     rw (c .no-admissions .ensures, sub-zero)
-    (at-first (begin .args .s) (rows .result .codes) (rows .result .ranks) (begin .pre .0) (rows .ensures))
+    (at-first (begin .args .t1) (rows .result .codes) (rows .result .ranks) (begin .pre .0) (rows .ensures))
 
 next-requires : tie.Need-next-requires Inv-loop μ-loop
 next-requires c κs = search needs
@@ -118,8 +118,8 @@ in-state-requires c κs = tt
 mul-t30-2 : tie.Need-mul-t30-2 Inv-loop μ-loop
 mul-t30-2 c = omega (arith, small (looked-at (c .before .before .before .before)))
 
-element-set-from-session : tie.Need-element-set-from-session Inv-loop μ-loop
-element-set-from-session c = small (looked-at (c .before .before .before .before))
+element-set-from-s : tie.Need-element-set-from-s Inv-loop μ-loop
+element-set-from-s c = small (looked-at (c .before .before .before .before))
 
 add-counter : tie.Need-add-counter Inv-loop μ-loop
 add-counter c = let e = looked-at (c .before) in omega (arith, turn e .more, start (head e) .pre .0)
@@ -169,7 +169,7 @@ scanned-spec =
     array-write-codes
     in-state-requires
     mul-t30-2
-    element-set-from-session
+    element-set-from-s
     add-counter
     loop-less
     loop-again

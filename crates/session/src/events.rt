@@ -85,6 +85,7 @@ fn is_early(arrival: Arrival, period: u32, tick: u32) -> bool
     }
 }
 
+// An absent task's job begins: it is plain, with no release yet.
 pub fn arrive(mut s: Session, tick: u32, task: u8) -> Answer
     ensures { λ answer. ⌜ answer ≡ arrive s tick task ⌝ }
 {
@@ -169,6 +170,7 @@ fn released(
     }
 }
 
+// A plain task on a processor asks to run a transaction with these sets: it runs, or it waits and a scan follows.
 pub fn release(s: Session, tick: u32, task: u8, reads: Groups, writes: Groups) -> Answer
     ensures { λ answer. ⌜ answer ≡ release byPriority s tick task reads writes ⌝ }
 {
@@ -196,6 +198,7 @@ pub fn release(s: Session, tick: u32, task: u8, reads: Groups, writes: Groups) -
     released(s, codes, tick, i, reads, writes)
 }
 
+// An executing transaction ends: those that waited and clash with it have been passed over once more, and a scan follows.
 pub fn commit(mut s: Session, tick: u32, task: u8) -> Answer
     ensures { λ answer. ⌜ answer ≡ commit byPriority s tick task ⌝ }
 {
@@ -227,6 +230,7 @@ pub fn commit(mut s: Session, tick: u32, task: u8) -> Answer
     scanned(s, Said::Ok)
 }
 
+// A plain task on a processor ends its job, and a scan follows.
 pub fn finish(mut s: Session, tick: u32, task: u8) -> Answer
     ensures { λ answer. ⌜ answer ≡ finish byPriority s tick task ⌝ }
 {

@@ -13,6 +13,7 @@ use crate::rows::no_admissions;
 use crate::rows::put_groups;
 use crate::rows::raised_task;
 use crate::rows::rows_of;
+use crate::rows::with_release;
 use crate::scan::scanned;
 use crate::search::blocked;
 use crate::search::clash_of;
@@ -133,9 +134,6 @@ fn released(
 {
     let n = s.n;
     let t = s.tasks[i];
-    let terms = t.terms;
-    let arrival = t.arrival;
-    let releases = t.releases + 1;
     s.tick = tick;
     s.accepted = s.accepted + 1;
     put_groups(&mut s.reads, i, reads);
@@ -146,23 +144,14 @@ fn released(
             object: objects::lowest_object(words),
             contested: objects::how_many(words),
         };
-        s.tasks[i] = Task {
-            terms: terms,
-            state: State::Waiting(Wait {
-                release: tick,
-                retries: 0,
-            }),
-            arrival: arrival,
-            releases: releases,
+        let wait = Wait {
+            release: tick,
+            retries: 0,
         };
+        s.tasks[i] = with_release(t, State::Waiting(wait));
         return scanned(s, said);
     }
-    s.tasks[i] = Task {
-        terms: terms,
-        state: State::Executing,
-        arrival: arrival,
-        releases: releases,
-    };
+    s.tasks[i] = with_release(t, State::Executing);
     Answer {
         said: Said::Run,
         admitted: no_admissions(),

@@ -4,7 +4,7 @@ ghost use Prim.Native.Nat.{_≤_, _<_, min, _+_};
 ghost use lib.ListN.{length};
 ghost use Rattle.rules.specs.Ranking.{byPriority};
 ghost use Rattle.rules.specs.Tasks.{isWaiting, retriesOf, inState, withGroups, noTask};
-ghost use Rattle.rules.specs.Events.{raisedTask};
+ghost use Rattle.rules.specs.Events.{raisedTask, released};
 ghost use Rattle.rules.specs.Scan.{none};
 ghost use Rattle.session.specs.Seen.{code, SeenTasks};
 use rules::Admission;
@@ -70,6 +70,21 @@ pub(crate) fn in_state(t: Task, state: State) -> Task
         state: state,
         arrival: arrival,
         releases: t.releases,
+    }
+}
+
+// The task in another state, with one more release.
+pub(crate) fn with_release(t: Task, state: State) -> Task
+    requires { ⌜ t .releases < 255 ⌝ }
+    ensures { λ task. ⌜ task ≡ released t state ⌝ }
+{
+    let terms = t.terms;
+    let arrival = t.arrival;
+    Task {
+        terms: terms,
+        state: state,
+        arrival: arrival,
+        releases: t.releases + 1,
     }
 }
 

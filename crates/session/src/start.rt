@@ -1,7 +1,7 @@
 // A setup, and the session that it starts.
 ghost use mathlib.Core.Path.{_≡_};
 ghost use Rattle.rules.specs.Tasks.{noTask};
-ghost use Rattle.rules.specs.Setup.{termsNumber, setupNumber, sameTerms, sameSetup, start};
+ghost use Rattle.rules.specs.Setup.{termsNumber, setupNumber, sameTerms, sameSetup, quiet, start};
 use rules::Arrival;
 use rules::Said;
 use rules::Session;
@@ -54,6 +54,21 @@ pub fn setup_number(u: Setup) -> u8
     0
 }
 
+// A session in which nothing has happened.
+fn quiet_session(m: u8, n: u8, tasks: [Task; 64]) -> Session
+    ensures { λ s. ⌜ s ≡ quiet m n tasks ⌝ }
+{
+    Session {
+        m: m,
+        n: n,
+        tick: 0,
+        accepted: 0,
+        tasks: tasks,
+        reads: [0; 256],
+        writes: [0; 256],
+    }
+}
+
 // A setup's answer: the fresh session, or the refusal with the session that stands in its place.
 pub fn setup(u: Setup) -> Started
     ensures { λ started. ⌜ started ≡ start u ⌝ }
@@ -73,15 +88,7 @@ pub fn setup(u: Setup) -> Started
     if number != 0 {
         return Started {
             said: Said::No(number),
-            session: Session {
-                m: 0,
-                n: 0,
-                tick: 0,
-                accepted: 0,
-                tasks: tasks,
-                reads: [0; 256],
-                writes: [0; 256],
-            },
+            session: quiet_session(0, 0, tasks),
         };
     }
     let end = u.n as usize;
@@ -96,15 +103,7 @@ pub fn setup(u: Setup) -> Started
     }
     Started {
         said: Said::Ok,
-        session: Session {
-            m: u.m,
-            n: u.n,
-            tick: 0,
-            accepted: 0,
-            tasks: tasks,
-            reads: [0; 256],
-            writes: [0; 256],
-        },
+        session: quiet_session(u.m, u.n, tasks),
     }
 }
 

@@ -7,7 +7,8 @@ use native.Mathlib.Omega.{arith}
 use lib.ListN.{set}
 use borrow.Author.Needs.{needs}
 use Rattle.rules.specs.declared.Task.{Task}
-use Rattle.rules.specs.declared.Said.the-variants.{Ok}
+use Rattle.rules.specs.declared.Session.{Session}
+use Rattle.rules.specs.declared.Said.the-variants.{Ok, No}
 use Rattle.rules.specs.Tasks.{freshTask}
 use Rattle.rules.specs.Ranking.{byPriority}
 use Rattle.rules.specs.Setup.{termsAt, setupNumber, freshTasks, quiet, fresh, noSession}
@@ -33,9 +34,15 @@ within c = fresh-sound byPriority (c .before .before .args .t1) (accepted c) .n-
 setup-number-requires : tie.Need-setup-number-requires Inv-loop μ-loop
 setup-number-requires c κs = search needs
 
+quiet-session-requires : tie.Need-quiet-session-requires Inv-loop μ-loop
+quiet-session-requires c κs = search needs
+
 returns : tie.Need-returns Inv-loop μ-loop
 unfolding noSession
-returns c = rw (← start-refused (c .before .before .args .t1) (c .before .setup-number .result) (c .before .setup-number .ensures) (c .if1 .taken))
+returns c =
+    let number = c .before .before .setup-number in
+    ap (λ (s : Session). record { said = No (number .result); session = s }) (c .quiet-session .ensures)
+    ∙ sym (start-refused (c .before .before .before .args .t1) (number .result) (number .ensures) (c .before .if1 .taken))
 
 cast-end : tie.Need-cast-end Inv-loop μ-loop
 cast-end c = search needs
@@ -68,13 +75,18 @@ loop-again c =
     let i = c .before .before .loop .i in
     (omega arith, ap (λ (tasks : List Task). set tasks i (freshTask (termsAt u i))) (c .before .before .loop .inv .1) ∙ sym (fresh-more u i))
 
+quiet-session-requires-2 : tie.Need-quiet-session-requires-2 Inv-loop μ-loop
+quiet-session-requires-2 c κs = search needs
+
 returns-2 : tie.Need-returns-2 Inv-loop μ-loop
 unfolding fresh
 returns-2 c =
-    let b = c .before .before in
+    let head = c .before .before in
+    let b = head .before in
     let u = b .before .before .args .t1 in
-    let done : c .before .loop .i ≡ u .n = omega arith in
-    ap (λ (tasks : List Task). record { said = Ok; session = quiet (u .m) (u .n) tasks }) (c .before .loop .inv .1 ∙ ap (freshTasks u) done)
+    let done : head .loop .i ≡ u .n = omega arith in
+    ap (λ (s : Session). record { said = Ok; session = s })
+    (c .quiet-session2 .ensures ∙ ap (quiet (u .m) (u .n)) (head .loop .inv .1 ∙ ap (freshTasks u) done))
     ∙ sym (start-accepted u (accepted b))
 
 pub setup-spec : {M : Type 1} → statement M
@@ -84,6 +96,7 @@ setup-spec =
     Inv-loop
     μ-loop
     setup-number-requires
+    quiet-session-requires
     returns
     cast-end
     loop-holds
@@ -94,4 +107,5 @@ setup-spec =
     add-i
     loop-less
     loop-again
+    quiet-session-requires-2
     returns-2)

@@ -27,23 +27,29 @@ use Rattle.rules.specs.Reachable.{Strict, Stays, EmptyAt, Sound, StepSou
 use Rattle.rules.proofs.Laws.Room.{room-fewer, unblocked-apart}
 use Rattle.rules.proofs.Laws.Steps.{arrive-cases, release-cases, commit-cases, finish-cases, step-cases}
 use Rattle.rules.proofs.Laws.Rows.{Agree, groups-same, clash-agree}
-use Rattle.rules.proofs.Laws.Numbers.{must, Timely, timely}
+use Rattle.rules.proofs.Laws.Numbers.{must, must-not, Timely, timely}
 use Rattle.rules.proofs.Laws.Alike.{raised-size, raised-alike}
 use Rattle.rules.proofs.Laws.Change.{TableBeside, Fine, table-same, rows-same, rows-replaced, scanned-sound, changed-sound}
 
 -- ---- what each number says where it is 0
 
-absent-is : (state : State) → isAbsent state ≡ true → state ≡ Absent
+pub absent-is : (state : State) → isAbsent state ≡ true → state ≡ Absent
 absent-is Absent e = refl
 absent-is Plain e = absurd (false≢true e)
 absent-is (Waiting w) e = absurd (false≢true e)
 absent-is Executing e = absurd (false≢true e)
 
-plain-is : (state : State) → isPlain state ≡ true → state ≡ Plain
+pub plain-is : (state : State) → isPlain state ≡ true → state ≡ Plain
 plain-is Absent e = absurd (false≢true e)
 plain-is Plain e = refl
 plain-is (Waiting w) e = absurd (false≢true e)
 plain-is Executing e = absurd (false≢true e)
+
+pub executing-is : (state : State) → isExecuting state ≡ true → state ≡ Executing
+executing-is Absent e = absurd (false≢true e)
+executing-is Plain e = absurd (false≢true e)
+executing-is (Waiting w) e = absurd (false≢true e)
+executing-is Executing e = refl
 
 same-tick : (tick a : ℕ) → At tick ≡ At a → a ≡ tick
 same-tick tick a e = cc
@@ -62,9 +68,16 @@ module _ (rank : Ranking) (strict : Strict rank) (stays : Stays rank) (s : Sessi
   abbrev arrive-rest : ℕ
   arrive-rest = cond (isAbsent (stateAt s i)) (cond (early (taskAt s i .arrival) (taskAt s i .terms .period) tick) 5 0) 4
 
-  arrive-timely : arriveNumber s tick i ≡ 0 → Timely s tick i arrive-rest
+  pub arrive-timely : arriveNumber s tick i ≡ 0 → Timely s tick i arrive-rest
   unfolding arriveNumber
   arrive-timely z = timely s tick i arrive-rest z
+
+  -- it was absent, and its last arrival lies one period back
+  pub arrive-was : arriveNumber s tick i ≡ 0 → (stateAt s i ≡ Absent) × (early (taskAt s i .arrival) (taskAt s i .terms .period) tick ≡ false)
+  arrive-was z =
+      let late = early (taskAt s i .arrival) (taskAt s i .terms .period) tick in
+      let here = must (isAbsent (stateAt s i)) (cond late 5 0) 4 (omega arith) (arrive-timely z .rest-zero) in
+      (absent-is (stateAt s i) (here .0), must-not late 0 5 (omega arith) (here .1) .0)
 
   arrive-sound : arriveNumber s tick i ≡ 0 → Sound rank (withTask (stamped s tick) i (arrived (taskAt s i) tick))
   arrive-sound z =
@@ -84,9 +97,7 @@ module _ (rank : Ranking) (strict : Strict rank) (stays : Stays rank) (s : Sessi
       ok = arrive-timely z
 
       was : stateAt s i ≡ Absent
-      was =
-          absent-is (stateAt s i)
-          (must (isAbsent (stateAt s i)) (cond (early (taskAt s i .arrival) (taskAt s i .terms .period) tick) 5 0) 4 (omega arith) (ok .rest-zero) .0)
+      was = arrive-was z .0
 
   -- ---- release
 
@@ -103,22 +114,22 @@ module _ (rank : Ranking) (strict : Strict rank) (stays : Stays rank) (s : Sessi
   release-rest = cond (isPlain (stateAt s i)) room-rest 4
 
   module _ (zeroed : releaseNumber rank s tick i ≡ 0) (reads writes : List ℕ) where
-    release-timely : Timely s tick i release-rest
+    pub release-timely : Timely s tick i release-rest
     unfolding releaseNumber
     release-timely = timely s tick i release-rest zeroed
 
-    release-plain : (isPlain (stateAt s i) ≡ true) × (room-rest ≡ 0)
+    pub release-plain : (isPlain (stateAt s i) ≡ true) × (room-rest ≡ 0)
     release-plain = must (isPlain (stateAt s i)) room-rest 4 (omega arith) (release-timely .rest-zero)
 
     release-room : (room rank s i ≡ true) × (left-rest ≡ 0)
     release-room = must (room rank s i) left-rest 6 (omega arith) (release-plain .1)
 
-    release-left : taskAt s i .releases + 1 ≤ taskAt s i .terms .transactions
+    pub release-left : taskAt s i .releases + 1 ≤ taskAt s i .terms .transactions
     release-left =
         omega (arith, ltb-true (taskAt s i .releases) (taskAt s i .terms .transactions) (must left 0 7 (omega arith) (release-room .1) .0))
 
     -- the new sets of task i are those that it brings
-    new-sets : Agree
+    pub new-sets : Agree
         (record { reads = groupsAt (withGroups (s .reads) i reads) (i * 4); writes = groupsAt (withGroups (s .writes) i writes) (i * 4) })
         (setsOf reads writes)
     new-sets = record { reads = same (s .reads) reads (sound .reads); writes = same (s .writes) writes (sound .writes) }
@@ -173,7 +184,7 @@ module _ (rank : Ranking) (strict : Strict rank) (stays : Stays rank) (s : Sessi
   abbrev commit-rest : ℕ
   commit-rest = cond (isExecuting (stateAt s i)) 0 4
 
-  commit-timely : commitNumber s tick i ≡ 0 → Timely s tick i commit-rest
+  pub commit-timely : commitNumber s tick i ≡ 0 → Timely s tick i commit-rest
   unfolding commitNumber
   commit-timely z = timely s tick i commit-rest z
 
@@ -209,17 +220,19 @@ module _ (rank : Ranking) (strict : Strict rank) (stays : Stays rank) (s : Sessi
   abbrev finish-rest : ℕ
   finish-rest = cond (isPlain (stateAt s i)) (cond (room rank s i) 0 6) 4
 
-  finish-timely : finishNumber rank s tick i ≡ 0 → Timely s tick i finish-rest
+  pub finish-timely : finishNumber rank s tick i ≡ 0 → Timely s tick i finish-rest
   unfolding finishNumber
   finish-timely z = timely s tick i finish-rest z
+
+  pub finish-was : finishNumber rank s tick i ≡ 0 → stateAt s i ≡ Plain
+  finish-was z =
+      plain-is (stateAt s i) (must (isPlain (stateAt s i)) (cond (room rank s i) 0 6) 4 (omega arith) (finish-timely z .rest-zero) .0)
 
   finish-sound : finishNumber rank s tick i ≡ 0
       → Sound rank (scan rank (withTask (stamped s tick) i (finished (taskAt s i))) .session)
   finish-sound z =
       let ok = finish-timely z in
-      let was : stateAt s i ≡ Plain =
-      plain-is (stateAt s i) (must (isPlain (stateAt s i)) (cond (room rank s i) 0 6) 4 (omega arith) (ok .rest-zero) .0)
-      in
+      let was = finish-was z in
       scanned-sound sound ok (table-same sound i) (rows-same sound i) (finished (taskAt s i))
       (record {
         terms = refl;
@@ -239,12 +252,12 @@ module _ (rank : Ranking) (strict : Strict rank) (stays : Stays rank) (s : Sessi
 pub step-sound : StepSound
 step-sound rank strict stays s e sound =
     step-cases rank s e (λ (a : Answer). Sound rank (a .session))
-    (arrive-cases Keeps s refuses (e .tick) (e .task) (arrive-sound rank strict stays s sound (e .tick) (e .task)))
-    (release-cases Keeps s refuses (e .tick) (e .task) rank (e .reads) (e .writes)
+    (λ kind. arrive-cases Keeps s refuses (e .tick) (e .task) (arrive-sound rank strict stays s sound (e .tick) (e .task)))
+    (λ kind. release-cases Keeps s refuses (e .tick) (e .task) rank (e .reads) (e .writes)
     (λ z b. waits-sound rank strict stays s sound (e .tick) (e .task) z (e .reads) (e .writes))
     (λ z b. runs-sound rank strict stays s sound (e .tick) (e .task) z (e .reads) (e .writes) b))
-    (commit-cases Keeps s refuses (e .tick) (e .task) rank (commit-sound rank strict stays s sound (e .tick) (e .task)))
-    (finish-cases Keeps s refuses (e .tick) (e .task) rank (finish-sound rank strict stays s sound (e .tick) (e .task)))
+    (λ kind. commit-cases Keeps s refuses (e .tick) (e .task) rank (commit-sound rank strict stays s sound (e .tick) (e .task)))
+    (λ kind. finish-cases Keeps s refuses (e .tick) (e .task) rank (finish-sound rank strict stays s sound (e .tick) (e .task)))
   where
     Keeps : Answer → Type 0
     Keeps a = Sound rank (a .session)

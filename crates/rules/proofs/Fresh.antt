@@ -14,7 +14,7 @@ use Rattle.rules.specs.declared.Arrival.the-variants.{Never, At}
 use Rattle.rules.specs.declared.Setup.{Setup}
 use Rattle.rules.specs.declared.Task.{Task}
 use Rattle.rules.specs.Ranking.{Ranking}
-use Rattle.rules.specs.Tasks.{isWaiting, isExecuting, retriesOf, allowed, freshTask, noTask, taskAt, waiting, executing}
+use Rattle.rules.specs.Tasks.{isAbsent, isWaiting, isExecuting, retriesOf, allowed, freshTask, noTask, taskAt, stateAt, waiting, executing}
 use Rattle.rules.specs.Setup.{termsAt, termsNumber, firstNumber, setupNumber, freshTasks, fresh}
 use Rattle.rules.specs.Reachable.{Sound, FreshSound}
 use Rattle.rules.proofs.Laws.Numbers.{must, allowed-bounds}
@@ -108,6 +108,10 @@ module _ (rank : Ranking) (u : Setup) (good : setupNumber u ≡ 0) where
 
 pub fresh-sound : FreshSound
 fresh-sound = fresh-is-sound
+
+pub fresh-absent : (u : Setup) → setupNumber u ≡ 0 → (i : ℕ) → i < fresh u .n → isAbsent (stateAt (fresh u) i) ≡ true
+unfolding fresh
+fresh-absent u good i l = ap (λ (t : Task). isAbsent (t .state)) (fresh-task (λ t i. i) u good i l)
 
 -- a setup that is accepted has no more tasks than the table
 pub n-within : (u : Setup) → setupNumber u ≡ 0 → u .n ≤ 64

@@ -8,6 +8,7 @@ pub mod Room
 pub mod Looks
 pub mod Passed
 pub mod Scan
+pub mod Listed
 pub mod Steps
 pub mod Rows
 pub mod Numbers

@@ -6,5 +6,10 @@ pub mod Start
 pub mod Accepted
 pub mod Fresh
 pub mod Events
+pub mod Moves
+pub mod Jobs
+pub mod Told
+pub mod Known
+pub mod Demand3
 pub mod Reachable
 pub mod Contest

@@ -11,3 +11,5 @@ pub mod Sum
 pub mod Lines
 pub mod Cases
 pub mod Reachable
+pub mod History
+pub mod Demand3

@@ -51,12 +51,12 @@ scan-apart rank s = scan-lasts rank (λ x. Apart (x .session)) (λ x. admit-apar
 -- ---- how many
 
 -- each admission so far is one more that executes, and with the last there were no more than m
-record Counted (s : Session) (x : Scanned) : Type 0 where
-  kept : Kept s (x .session)
-  counts : count (s .n) (executing (x .session)) ≡ count (s .n) (executing s) + x .admitted .count
-  bounded : (x .admitted .count ≡ 0) ⊎ (count (s .n) (executing (x .session)) ≤ s .m)
+pub record Counted (s : Session) (x : Scanned) : Type 0 where
+  pub kept : Kept s (x .session)
+  pub counts : count (s .n) (executing (x .session)) ≡ count (s .n) (executing s) + x .admitted .count
+  pub bounded : (x .admitted .count ≡ 0) ⊎ (count (s .n) (executing (x .session)) ≤ s .m)
 
-admit-counted : (rank : Ranking) (s : Session) → Lasts rank (Counted s)
+pub admit-counted : (rank : Ranking) (s : Session) → Lasts rank (Counted s)
 admit-counted rank s x i p l w a = record {
   kept = admit-kept rank s x i (p .kept) l w a;
   counts = omega (arith, p .counts, more);

@@ -69,21 +69,21 @@ module _ (P : Answer → Type 0) (s : Session) (refuses : (k : ℕ) → k ≢ 0 
           go z true e = wait z e
           go z false e = run z e
 
--- any event
+-- any event, by its kind
 pub step-cases : (rank : Ranking) (s : Session) (e : Event) (P : Answer → Type 0)
-    → P (arrive s (e .tick) (e .task))
-    → P (release rank s (e .tick) (e .task) (e .reads) (e .writes))
-    → P (commit rank s (e .tick) (e .task))
-    → P (finish rank s (e .tick) (e .task))
+    → (e .kind ≡ Arrive → P (arrive s (e .tick) (e .task)))
+    → (e .kind ≡ Release → P (release rank s (e .tick) (e .task) (e .reads) (e .writes)))
+    → (e .kind ≡ Commit → P (commit rank s (e .tick) (e .task)))
+    → (e .kind ≡ Finish → P (finish rank s (e .tick) (e .task)))
     → P (step rank s e)
 unfolding step
 step-cases rank s e P a r c f =
-    elim (e .kind) as (λ k. P (elim k [
+    (elim (e .kind) as (λ k. e .kind ≡ k → P (elim k [
       | Arrive ↦ arrive s (e .tick) (e .task)
       | Release ↦ release rank s (e .tick) (e .task) (e .reads) (e .writes)
       | Commit ↦ commit rank s (e .tick) (e .task)
       | Finish ↦ finish rank s (e .tick) (e .task)
-    ])) [ Arrive ↦ a | Release ↦ r | Commit ↦ c | Finish ↦ f ]
+    ])) [ Arrive ↦ a | Release ↦ r | Commit ↦ c | Finish ↦ f ]) refl
 
 -- ---- the same by what is said
 
@@ -101,9 +101,9 @@ pub outcome : (rank : Ranking) (s : Session) (e : Event) (P : Answer → Type 0)
     → P (step rank s e)
 outcome rank s e P refuses stays scans =
     step-cases rank s e P
-    (arrive-cases P s refuses (e .tick) (e .task) (λ z. stays Ok _ refl (record { m = refl; accepted = refl; tick = refl })))
-    (release-cases P s refuses (e .tick) (e .task) rank (e .reads) (e .writes)
+    (λ kind. arrive-cases P s refuses (e .tick) (e .task) (λ z. stays Ok _ refl (record { m = refl; accepted = refl; tick = refl })))
+    (λ kind. release-cases P s refuses (e .tick) (e .task) rank (e .reads) (e .writes)
     (λ z b. scans (Wait (lowestContested s (setsOf (e .reads) (e .writes))) (contestedCount s (setsOf (e .reads) (e .writes)))) _ refl (record { m = refl; accepted = refl; tick = refl }))
     (λ z b. stays Run _ refl (record { m = refl; accepted = refl; tick = refl })))
-    (commit-cases P s refuses (e .tick) (e .task) rank (λ z. scans Ok (committed s (e .tick) (e .task)) refl (record { m = refl; accepted = refl; tick = refl })))
-    (finish-cases P s refuses (e .tick) (e .task) rank (λ z. scans Ok (withTask (stamped s (e .tick)) (e .task) (finished (taskAt s (e .task)))) refl (record { m = refl; accepted = refl; tick = refl })))
+    (λ kind. commit-cases P s refuses (e .tick) (e .task) rank (λ z. scans Ok (committed s (e .tick) (e .task)) refl (record { m = refl; accepted = refl; tick = refl })))
+    (λ kind. finish-cases P s refuses (e .tick) (e .task) rank (λ z. scans Ok (withTask (stamped s (e .tick)) (e .task) (finished (taskAt s (e .task)))) refl (record { m = refl; accepted = refl; tick = refl })))

@@ -1,0 +1,220 @@
+-- Demand 3, proved. Everything but the first theorem is read off what is known at every place of a run; the first is an induction over the further calls.
+use Prim.Native.Nat.{ℕ, _+_, _≤_, _<_}
+use mathlib.Core.Path.{_≡_, refl, sym, ap, subst, _∙_}
+use mathlib.Core.Logic.{_⊎_, inl, inr, _≢_}
+use mathlib.Core.List.{List, [], _∷_}
+use mathlib.Core.Bool.{Bool, true, false, cond, _&&_, _||_, false≢true}
+use native.Mathlib.Nat.{lt-of-lt-of-le, le-trans, le-of-eq}
+use native.Mathlib.Omega.{arith}
+use lib.Dec.{eqb, leb, ltb}
+use lib.ListN.{getD}
+use borrow.Author.Tests.{eq-eqb, le-leb, lt-ltb}
+use Rattle.objects.specs.Below.{sum}
+use Rattle.objects.specs.Objects.{Sets, clash}
+use Rattle.objects.proofs.Laws.Below.{not-both, and-both, or-false-left, or-false-right, sum-mono}
+use Rattle.objects.proofs.Laws.Clash.{clash-plain}
+use Rattle.rules.specs.declared.Wait.{Wait}
+use Rattle.rules.specs.declared.State.{State}
+use Rattle.rules.specs.declared.State.the-variants.{Absent, Plain, Waiting, Executing}
+use Rattle.rules.specs.declared.Terms.{Terms}
+use Rattle.rules.specs.declared.Task.{Task}
+use Rattle.rules.specs.declared.Session.{Session}
+use Rattle.rules.specs.declared.Event.{Event}
+use Rattle.rules.specs.declared.Said.{Said}
+use Rattle.rules.specs.declared.Answer.{Answer}
+use Rattle.rules.specs.declared.Summed.{Summed}
+use Rattle.rules.specs.Answers.{number}
+use Rattle.rules.specs.Ranking.{Ranking}
+use Rattle.rules.specs.Tasks.{isAbsent, isWaiting, isExecuting, retriesOf, allowed, known, taskAt, stateAt, executing, setsAt}
+use Rattle.rules.specs.Setup.{termsNumber, fresh}
+use Rattle.rules.specs.Events.{raisedState, raisedTask, refused, step}
+use Rattle.rules.specs.Sum.{share, bound, summed}
+use Rattle.rules.specs.Reachable.{Strict, Stays, Sound}
+use Rattle.rules.specs.History.{Call, heard, noAdmission, commits, waitLength, during, passes, passed}
+use Rattle.rules.specs.Demand3.{Start, Run, begun, called, SameSets, FreshStarts, commitsIn, OnceRunning, HeldBack, RetriesCounted, AdmittedCounted, Bounded, RunningApart, FewRunning, AsTold}
+use Rattle.rules.proofs.Laws.Numbers.{must, must-not, allowed-bounds}
+use Rattle.rules.proofs.Laws.Alike.{at-or-other}
+use Rattle.rules.proofs.Laws.Keeping.{kept-sets}
+use Rattle.rules.proofs.Laws.Listed.{Settled, Each}
+use Rattle.rules.proofs.Contest.{blocked-plain}
+use Rattle.rules.proofs.Fresh.{fresh-sound, fresh-absent}
+use Rattle.rules.proofs.Events.{step-sound}
+use Rattle.rules.proofs.Moves.{Own, arrives, runs, waits, commits as commitsOwn, finishes, passedOver, Moved, Taken, refuses, accepts, taken}
+use Rattle.rules.proofs.Told.{moved-follows}
+use Rattle.rules.proofs.Jobs.{limited-share}
+use Rattle.rules.proofs.Known.{Known, commitsOf, arrivalsOf, run-known}
+
+-- ---- a start
+
+pub fresh-starts : FreshStarts
+fresh-starts rank u good = record { sound = fresh-sound rank u good; absent = fresh-absent u good }
+
+-- ---- once running, running until its own commit
+
+raised-executing : (t : Task) (b : Bool) → isExecuting (t .state) ≡ true → isExecuting (cond b (raisedTask t) t .state) ≡ true
+raised-executing t true x = go (t .state) x
+  where
+    go : (state : State) → isExecuting state ≡ true → isExecuting (raisedState state) ≡ true
+    go Absent x = x
+    go Plain x = x
+    go (Waiting w) x = absurd (false≢true x)
+    go Executing x = x
+raised-executing t false x = x
+
+module _ (s : Session) (e : Event) (a : Answer) (s₁ : Session) (moved : Moved s e (a .said) s₁) (settled : Settled s₁ (a .admitted) (a .session))
+    (i : ℕ) (l : i < s .n) (runs-before : executing s i ≡ true) (on : commits (heard e a) i ≡ false) where
+  -- no accepted event of its own but a commit can come
+  not-own : i ≢ e .task
+  not-own p = go (moved .own)
+    where
+      was : {state : State} → taskAt s (e .task) .state ≡ state → isExecuting state ≡ true
+      was q = ap isExecuting (sym q) ∙ ap (executing s) (sym p) ∙ runs-before
+
+      go : {said : Said} {u : Task} → Own (taskAt s (e .task)) e said u → ⊥
+      go (arrives kind q late) = false≢true (was q)
+      go (runs kind q) = false≢true (was q)
+      go (waits kind q b k) = false≢true (was q)
+      go (commitsOwn kind q) = not-both (commits (heard e a) i) (rw (eq-eqb (number (a .said)) 0 (moved .zero), eq-eqb (e .task) i (sym p), kind) refl) on
+      go (finishes kind q) = false≢true (was q)
+
+  runs-after : executing (a .session) i ≡ true
+  runs-after = go (settled .each i)
+    where
+      go : {named : Bool} → Each s₁ (a .session) named i → executing (a .session) i ≡ true
+      go (inl q) =
+          ap (λ (t : Task). isExecuting (t .state)) (q .0 ∙ moved .other i l not-own) ∙ raised-executing (taskAt s i) (passedOver s e i) runs-before
+      go (inr q) = ap (λ (t : Task). isExecuting (t .state)) (q .1)
+
+  sets-after : SameSets (setsAt (a .session) i) (setsAt s i)
+  sets-after =
+      subst (λ (x : Sets). SameSets x (setsAt s i)) (sym (kept-sets s₁ (a .session) (settled .kept) i))
+      (λ g lg. (moved .other-sets i not-own .reads g lg, moved .other-sets i not-own .writes g lg))
+
+-- what further calls keep
+record Still (rank : Ranking) (s s′ : Session) (i : ℕ) : Type 0 where
+  sound : Sound rank s′
+  n : s′ .n ≡ s .n
+  runs : executing s′ i ≡ true
+  sets : SameSets (setsAt s′ i) (setsAt s i)
+
+still : (rank : Ranking) → Strict rank → Stays rank → (s : Session) → Sound rank s → (i : ℕ) → i < s .n → executing s i ≡ true
+    → (s′ : Session) (more : List Call) → Run rank s s′ more → commitsIn more i ≡ false → Still rank s s′ i
+unfolding commitsIn
+still rank strict stays s sound i l x s′ more begun none = record { sound = sound; n = refl; runs = x; sets = λ g lg. (refl, refl) }
+still rank strict stays s sound i l x s′ more (called {s = before} {calls = earlier} r e) none =
+    let a = step rank before e in
+    let p = still rank strict stays s sound i l x before earlier r (or-false-right (commits (heard e a) i) (commitsIn earlier i) none) in
+    go p a (taken rank strict stays before e (p .sound)) (step-sound rank strict stays before e (p .sound))
+    (or-false-left (commits (heard e a) i) (commitsIn earlier i) none)
+  where
+    go : Still rank s before i → (a : Answer) → Taken before e a → Sound rank (a .session) → commits (heard e a) i ≡ false → Still rank s (a .session) i
+    go p a (refuses k given) sound′ on = p
+    go p a (accepts _ s₁ moved settled) sound′ on =
+        let lb = lt-of-lt-of-le l (le-of-eq (sym (p .n))) in
+        record {
+          sound = sound′;
+          n = settled .kept .n ∙ moved .n-same ∙ p .n;
+          runs = runs-after before e a s₁ moved settled i lb (p .runs) on;
+          sets = λ g lg.
+              let q = sets-after before e a s₁ moved settled i lb (p .runs) on g lg in
+              (q .0 ∙ p .sets g lg .0, q .1 ∙ p .sets g lg .1);
+        }
+
+pub once-running : OnceRunning
+once-running rank strict stays start s calls begins run i l x s′ more further none =
+    let p = still rank strict stays s (run-known rank strict stays start s calls begins run .sound) i l x s′ more further none in
+    (p .runs, p .sets)
+
+-- ---- who waits is held
+
+pub held-back : HeldBack
+held-back rank strict stays start s calls begins run i l w =
+    elim (run-known rank strict stays start s calls begins run .sound .held i l w) [
+      | inl b ↦ inl (blocked-plain s (setsAt s i) .0 b)
+      | inr r ↦ inr r
+    ]
+
+-- ---- the retry count
+
+pub retries-counted : RetriesCounted
+retries-counted rank strict stays start s calls begins run i w l q = run-known rank strict stays start s calls begins run .follows i l .retries w q
+
+waiting-is : (state : State) → isWaiting state ≡ true → (w : Wait) × (state ≡ Waiting w)
+waiting-is Absent e = absurd (false≢true e)
+waiting-is Plain e = absurd (false≢true e)
+waiting-is (Waiting w) e = (w, refl)
+waiting-is Executing e = absurd (false≢true e)
+
+pub admitted-counted : AdmittedCounted
+unfolding passed during passes
+admitted-counted rank strict stays start s calls begins run e k lk =
+    let p = run-known rank strict stays start s calls begins run in
+    go p (step rank s e) (taken rank strict stays s e (p .sound)) lk
+  where
+    go : Known rank s calls → (a : Answer) → Taken s e a → k < a .admitted .count
+        → getD (a .admitted .list) k noAdmission .retries ≡ passed (getD (a .admitted .list) k noAdmission .task) (heard e a ∷ calls)
+    go p a (refuses k′ given) lk = absurd (omega arith)
+    go p a (accepts _ s₁ moved settled) lk =
+        let entry = settled .entries k lk in
+        let i = getD (a .admitted .list) k noAdmission .task in
+        let w = waiting-is (stateAt s₁ i) (entry .1) in
+        entry .2 ∙ ap retriesOf (w .1)
+        ∙ moved-follows s e (a .said) s₁ moved calls (p .follows) (λ j lj. omega (arith, p .sound .retries j lj, p .sound .accepted)) i
+        (lt-of-lt-of-le (entry .0) (le-of-eq (moved .n-same))) .retries (w .0) (w .1)
+
+-- ---- the sum
+
+sound-known : (rank : Ranking) (s : Session) (i : ℕ) → Sound rank s → i < s .n → known s i ≡ true
+sound-known rank s i p l =
+    and-both (allowed 16 (s .m) && allowed 64 (s .n)) (ltb i (s .n))
+    (and-both (allowed 16 (s .m)) (allowed 64 (s .n)) (allowing 16 (s .m) (p .m-low) (p .m-high)) (allowing 64 (s .n) (p .n-low) (p .n-high)))
+    (lt-ltb i (s .n) l)
+  where
+    allowing : (most k : ℕ) → 1 ≤ k → k ≤ most → allowed most k ≡ true
+    allowing most k low high = and-both (leb 1 k) (leb k most) (le-leb 1 k low) (le-leb k most high)
+
+-- a period that a setup allows is no 0
+positive : (t : Terms) → termsNumber t ≡ 0 → 0 < t .period
+positive t e =
+    let priority = must-not (eqb (t .priority) 0) (cond (allowed 86400000 (t .period)) 0 13) 12 (omega arith) e in
+    allowed-bounds 86400000 (t .period) (must (allowed 86400000 (t .period)) 0 13 (omega arith) (priority .1) .0) .0
+
+pub bounded : Bounded
+unfolding summed bound
+bounded rank strict stays start s calls begins run i l = go (sound-known rank s i (p .sound) l)
+  where
+    p : Known rank s calls
+    p = run-known rank strict stays start s calls begins run
+
+    length : ℕ
+    length = waitLength i calls
+
+    each : (j : ℕ) → j < s .n → cond (eqb j i) 0 (commitsOf j i calls) ≤ cond (eqb j i) 0 (share length (taskAt s j .terms))
+    each j lj = pick (eqb j i)
+      where
+        pick : (b : Bool) → cond b 0 (commitsOf j i calls) ≤ cond b 0 (share length (taskAt s j .terms))
+        pick true = le-of-eq refl
+        pick false =
+            limited-share (taskAt s j .terms) (commitsOf j i calls) (arrivalsOf j i calls) length (positive (taskAt s j .terms) (p .sound .terms j lj))
+            (p .limited i j l lj)
+
+    at-most : passed i calls ≤ bound s i length
+    at-most =
+        le-trans (p .total i l)
+        (sum-mono (s .n) (λ j. cond (eqb j i) 0 (commitsOf j i calls)) (λ j. cond (eqb j i) 0 (share length (taskAt s j .terms))) each)
+
+    go : known s i ≡ true → (summed s i length .number ≡ 0) × (passed i calls ≤ summed s i length .sum)
+    go k = rw k (refl, at-most)
+
+-- ---- those that run, and what is told
+
+pub running-apart : RunningApart
+running-apart rank strict stays start s calls begins run i j li lj d x y both =
+    not-both (clash (setsAt s i) (setsAt s j)) (clash-plain (setsAt s i) (setsAt s j) .1 both)
+    (run-known rank strict stays start s calls begins run .sound .apart i j li lj d x y)
+
+pub few-running : FewRunning
+few-running rank strict stays start s calls begins run = run-known rank strict stays start s calls begins run .sound .fit
+
+pub as-told : AsTold
+as-told rank strict stays start s calls begins run i l = run-known rank strict stays start s calls begins run .follows i l .told

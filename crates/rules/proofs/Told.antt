@@ -1,0 +1,320 @@
+-- History says what the session says. An accepted event is followed in two parts: first what it does itself, with nobody admitted yet, and then what its scan admits.
+use Prim.Native.Nat.{ℕ, _+_, _*_, _≤_, _<_, min}
+use mathlib.Core.Path.{_≡_, refl, sym, ap, ap₂, subst, _∙_}
+use mathlib.Core.Logic.{_⊎_, inl, inr, _≢_}
+use mathlib.Core.List.{List, [], _∷_}
+use mathlib.Core.Bool.{Bool, true, false, cond, not, _&&_, _||_, false≢true}
+use native.Mathlib.Nat.{add-zero, lt-of-lt-of-le, le-of-eq}
+use native.Mathlib.Omega.{arith}
+use lib.Dec.{eqb}
+use borrow.Author.Tests.{eq-eqb, ne-eqb, eqb-true, eqb-false}
+use Rattle.objects.specs.Below.{one}
+use Rattle.objects.specs.Objects.{Sets, clash}
+use Rattle.objects.proofs.Laws.Below.{not-both, or-left, or-right}
+use Rattle.rules.specs.declared.Wait.{Wait}
+use Rattle.rules.specs.declared.State.{State}
+use Rattle.rules.specs.declared.State.the-variants.{Absent, Plain, Waiting, Executing}
+use Rattle.rules.specs.declared.Task.{Task}
+use Rattle.rules.specs.declared.Session.{Session}
+use Rattle.rules.specs.declared.Kind.{Kind}
+use Rattle.rules.specs.declared.Kind.the-variants.{Arrive, Release, Commit, Finish}
+use Rattle.rules.specs.declared.Event.{Event}
+use Rattle.rules.specs.declared.Said.{Said}
+use Rattle.rules.specs.declared.Said.the-variants.{Ok, Run, Wait as Waits}
+use Rattle.rules.specs.declared.Answer.{Answer}
+use Rattle.rules.specs.Answers.{number}
+use Rattle.rules.specs.Tasks.{isWaiting, isExecuting, retriesOf, taskAt, stateAt, waiting, executing, setsAt, setsOf, inState}
+use Rattle.rules.specs.Events.{raisedState, raisedTask, arrived, released, finished, refused}
+use Rattle.rules.specs.History.{Call, heard, tasksOf, names, by, accepted, admits, isCommit, isRelease, Stage, absent, plain, waits as waitsStage, executes, stage, isWaits, inWait, transaction, began, lasted, deferred, during, passes, passed}
+use Rattle.rules.specs.History.{released as releasedIn}
+use Rattle.rules.specs.Demand3.{SameSets, stageOf, Told}
+use Rattle.rules.proofs.Laws.Rows.{Agree, clash-agree}
+use Rattle.rules.proofs.Laws.Alike.{at-or-other}
+use Rattle.rules.proofs.Laws.Keeping.{kept-sets}
+use Rattle.rules.proofs.Laws.Listed.{Settled, Each}
+use Rattle.rules.proofs.Moves.{Own, arrives, runs, waits, commits, finishes, passedOver, beside, Moved}
+
+-- what is told of a task, with its retry count
+pub record Follows (s : Session) (calls : List Call) (i : ℕ) : Type 0 where
+  pub told : Told s calls i
+  pub retries : (w : Wait) → stateAt s i ≡ Waiting w → w .retries ≡ passed i calls
+
+-- ---- sets
+
+agree-same : (x y z : Sets) → Agree x y → SameSets y z → SameSets x z
+agree-same x y z p q g l = (p .reads g l ∙ q g l .0, p .writes g l ∙ q g l .1)
+
+agreeing : (x y : Sets) → SameSets x y → Agree x y
+agreeing x y p = record { reads = λ g l. p g l .0; writes = λ g l. p g l .1 }
+
+-- a call that does not begin the wait is counted or not
+pub during-goes : (f : Call → List Call → Bool) (c : Call) (calls : List Call) (i : ℕ) → deferred c i ≡ false
+    → during f i (c ∷ calls) ≡ during f i calls + one (inWait i calls && f c calls)
+unfolding during
+during-goes f c calls i q = ap (λ (b : Bool). cond b 0 (during f i calls + one (inWait i calls && f c calls))) q
+
+pub plus-none : (k : ℕ) (b : Bool) → k + one (b && false) ≡ k
+plus-none k true = add-zero k
+plus-none k false = add-zero k
+
+-- ---- a refused call
+
+module _ (s : Session) (e : Event) (k : ℕ) (no : k ≢ 0) (calls : List Call) (i : ℕ) (p : Follows s calls i) where
+  pub refused-follows : Follows s (heard e (refused s k) ∷ calls) i
+  unfolding stage transaction releasedIn began lasted passed during passes names tasksOf
+  refused-follows = record {
+    told = record {
+      stands = rw (ne-eqb k 0 no) (p .told .stands);
+      sets = rw (ne-eqb k 0 no) (p .told .sets);
+      release = rw (ne-eqb k 0 no) (p .told .release);
+      length = rw (ne-eqb k 0 no) (p .told .length);
+      releases = rw (ne-eqb k 0 no) (p .told .releases ∙ sym (add-zero (releasedIn i calls)));
+    };
+    retries = λ w q. rw (ne-eqb k 0 no) (p .retries w q ∙ sym (plus-none (passed i calls) (inWait i calls)));
+  }
+
+-- ---- an accepted call: what is shown of its task's record is shown of the session
+
+pub no-wait : (state : State) (w : Wait) → isWaiting state ≡ false → state ≡ Waiting w → ⊥
+no-wait state w n e = false≢true (sym n ∙ ap isWaiting e)
+
+record Seen (s : Session) (calls : List Call) (i : ℕ) (t : Task) : Type 0 where
+  stands : stage i calls ≡ stageOf (t .state)
+  sets : (isWaiting (t .state) || isExecuting (t .state)) ≡ true → SameSets (setsAt s i) (transaction i calls)
+  wait : (w : Wait) → t .state ≡ Waiting w → (w .release ≡ began i calls) × (w .retries ≡ passed i calls) × (lasted i calls ≡ s .tick)
+  releases : t .releases ≡ releasedIn i calls
+
+follows : (s : Session) (calls : List Call) (i : ℕ) (t : Task) → taskAt s i ≡ t → Seen s calls i t → Follows s calls i
+follows s calls i t e p = record {
+  told = record {
+    stands = p .stands ∙ ap (λ (u : Task). stageOf (u .state)) (sym e);
+    sets = λ b. p .sets (ap (λ (u : Task). isWaiting (u .state) || isExecuting (u .state)) (sym e) ∙ b);
+    release = λ w q. p .wait w (here ∙ q) .0;
+    length = λ w q. p .wait w (here ∙ q) .2;
+    releases = ap (λ (u : Task). u .releases) e ∙ p .releases;
+  };
+  retries = λ w q. p .wait w (here ∙ q) .1;
+}
+  where
+    here : t .state ≡ taskAt s i .state
+    here = ap (λ (u : Task). u .state) (sym e)
+
+-- ---- who is admitted
+
+-- the call of an accepted event before anybody is admitted
+abbrev unsettled : Event → Said → Call
+unsettled e said = record { event = e; said = said; admitted = [] }
+
+module _ (e : Event) (a : Answer) (s s′ : Session) (calls : List Call) (i : ℕ) (settled : Settled s (a .admitted) s′)
+    (p : Follows s (unsettled e (a .said) ∷ calls) i) where
+  abbrev c : Call
+  c = heard e a
+
+  sets-stay : (y : Sets) → SameSets (setsAt s i) y → SameSets (setsAt s′ i) y
+  sets-stay y = subst (λ (x : Sets). SameSets x y) (sym (kept-sets s s′ (settled .kept) i))
+
+  pub settled-follows : Follows s′ (c ∷ calls) i
+  unfolding stage transaction releasedIn began lasted passed during passes names
+  settled-follows = go (settled .each i)
+    where
+      go : Each s s′ (admits c i) i → Follows s′ (c ∷ calls) i
+      go (inl q) =
+          follows s′ (c ∷ calls) i (taskAt s i) (q .0)
+          (record {
+            stands = rw (q .1) (p .told .stands);
+            sets = λ b. sets-stay (transaction i (c ∷ calls)) (p .told .sets b);
+            wait = λ w r. (p .told .release w r, p .retries w r, p .told .length w r ∙ sym (settled .kept .tick));
+            releases = p .told .releases;
+          })
+      go (inr q) =
+          follows s′ (c ∷ calls) i (inState (taskAt s i) Executing) (q .1)
+          (record {
+            stands = rw (q .2) refl;
+            sets = λ b. sets-stay (transaction i (c ∷ calls)) (p .told .sets (or-left (waiting s i) (executing s i) (q .0)));
+            wait = λ w r. absurd (no-wait Executing w refl r);
+            releases = p .told .releases;
+          })
+
+-- ---- what the event does itself
+
+waits-waiting : (state : State) → isWaits (stageOf state) ≡ isWaiting state
+waits-waiting Absent = refl
+waits-waiting Plain = refl
+waits-waiting (Waiting w) = refl
+waits-waiting Executing = refl
+
+pub in-wait : (s : Session) (calls : List Call) (i : ℕ) → Told s calls i → inWait i calls ≡ waiting s i
+in-wait s calls i p = ap isWaits (p .stands) ∙ waits-waiting (stateAt s i)
+
+-- a task that a commit may have raised: what its wait was before
+record Waited (state : State) (b : Bool) (w : Wait) : Type 0 where
+  before : Wait
+  waits : state ≡ Waiting before
+  release : w .release ≡ before .release
+  retries : w .retries ≡ before .retries + one b
+
+releaseOf : State → ℕ
+releaseOf Absent = 0
+releaseOf Plain = 0
+releaseOf (Waiting w) = w .release
+releaseOf Executing = 0
+
+waited : (t : Task) (state : State) (b : Bool) (w : Wait) → t .state ≡ state → retriesOf state < 4294967295
+    → cond b (raisedTask t) t .state ≡ Waiting w → Waited state b w
+unfolding releaseOf
+waited t state true w e l q = go state l (ap raisedState (sym e) ∙ q)
+  where
+    go : (state : State) → retriesOf state < 4294967295 → raisedState state ≡ Waiting w → Waited state true w
+    go Absent l q = absurd (no-wait Absent w refl q)
+    go Plain l q = absurd (no-wait Plain w refl q)
+    go (Waiting v) l q = record { before = v; waits = refl; release = sym (ap releaseOf q); retries = omega (arith, ap retriesOf q) }
+    go Executing l q = absurd (no-wait Executing w refl q)
+waited t state false w e l q = record { before = w; waits = sym e ∙ q; release = refl; retries = sym (add-zero (w .retries)) }
+
+-- what a commit may have changed of a task is not its stage, nor its releases
+stage-stays : (t : Task) (b : Bool) → stageOf (cond b (raisedTask t) t .state) ≡ stageOf (t .state)
+stage-stays t true = go (t .state)
+  where
+    go : (state : State) → stageOf (raisedState state) ≡ stageOf state
+    go Absent = refl
+    go Plain = refl
+    go (Waiting w) = refl
+    go Executing = refl
+stage-stays t false = refl
+
+releases-stay : (t : Task) (b : Bool) → cond b (raisedTask t) t .releases ≡ t .releases
+releases-stay t true = refl
+releases-stay t false = refl
+
+-- a task waits or executes by its stage
+busy : Stage → Bool
+busy absent = false
+busy plain = false
+busy waitsStage = true
+busy executes = true
+
+busy-stage : (state : State) → (isWaiting state || isExecuting state) ≡ busy (stageOf state)
+unfolding busy
+busy-stage Absent = refl
+busy-stage Plain = refl
+busy-stage (Waiting w) = refl
+busy-stage Executing = refl
+
+module _ (s : Session) (e : Event) (said : Said) (s′ : Session) (moved : Moved s e said s′) (calls : List Call)
+    (every : (j : ℕ) → j < s .n → Follows s calls j) (fits : (j : ℕ) → j < s .n → retriesOf (stateAt s j) < 4294967295) where
+  abbrev i : ℕ
+  i = e .task
+
+  abbrev c₀ : Call
+  c₀ = unsettled e said
+
+  ok : accepted c₀ ≡ true
+  ok = eq-eqb (number said) 0 (moved .zero)
+
+  -- one that commits executes
+  commits-executing : isCommit (e .kind) ≡ true → executing s i ≡ true
+  commits-executing q = go (moved .own)
+    where
+      go : {said : Said} {u : Task} → Own (taskAt s i) e said u → executing s i ≡ true
+      go (arrives kind was late) = absurd (false≢true (ap isCommit (sym kind) ∙ q))
+      go (runs kind was) = absurd (false≢true (ap isCommit (sym kind) ∙ q))
+      go (waits kind was b k) = absurd (false≢true (ap isCommit (sym kind) ∙ q))
+      go (commits kind was) = ap isExecuting was
+      go (finishes kind was) = absurd (false≢true (ap isCommit (sym kind) ∙ q))
+
+  module _ (j : ℕ) (l : j < s .n) (d : j ≢ i) where
+    not-by : eqb i j ≡ false
+    not-by = ne-eqb i j (λ p. d (sym p))
+
+    abbrev raised : Bool
+    raised = passedOver s e j
+
+    -- the history's test is the rule's
+    passes-raised : waiting s j ≡ true → (inWait j calls && passes j c₀ calls) ≡ raised
+    unfolding passes
+    passes-raised w = go (isCommit (e .kind)) refl
+      where
+        same : executing s i ≡ true → clash (transaction i calls) (transaction j calls) ≡ clash (setsAt s i) (setsAt s j)
+        same x =
+            sym (clash-agree (setsAt s i) (setsAt s j) (transaction i calls) (transaction j calls)
+            (agreeing (setsAt s i) (transaction i calls) (every i (moved .below) .told .sets (or-right (waiting s i) (executing s i) x)))
+            (agreeing (setsAt s j) (transaction j calls) (every j l .told .sets (or-left (waiting s j) (executing s j) w))))
+
+        go : (b : Bool) → isCommit (e .kind) ≡ b → (inWait j calls && passes j c₀ calls) ≡ raised
+        go true q = rw (in-wait s calls j (every j l .told), w, ok, q, not-by) (same (commits-executing q))
+        go false q = rw (in-wait s calls j (every j l .told), w, ok, q)
+
+    other-follows : Follows s′ (c₀ ∷ calls) j
+    unfolding stage transaction releasedIn began lasted passed
+    other-follows =
+        let before = every j l in
+        let t = taskAt s j in
+        let state = stage-stays t raised in
+        follows s′ (c₀ ∷ calls) j (beside s e j) (moved .other j l d)
+        (record {
+          stands = rw (ok, not-by) (before .told .stands ∙ sym state);
+          sets = λ b. rw (ok, not-by)
+              (agree-same (setsAt s′ j) (setsAt s j) (transaction j calls) (moved .other-sets j d)
+              (before .told .sets (busy-stage (t .state) ∙ ap busy (sym state) ∙ sym (busy-stage (beside s e j .state)) ∙ b)));
+          wait = λ w q.
+              let was = waited t (stateAt s j) raised w refl (fits j l) q in
+              let waiting-before = ap isWaiting (was .waits) in (
+                rw (ok, not-by) (was .release ∙ before .told .release (was .before) (was .waits)),
+                was .retries ∙ ap₂ (λ (k : ℕ) (b : Bool). k + one b) (before .retries (was .before) (was .waits)) (sym (passes-raised waiting-before))
+                    ∙ sym (during-goes (passes j) c₀ calls j (rw (ok, not-by) refl)),
+                rw (ok, not-by, in-wait s calls j (before .told), waiting-before) (sym (moved .tick-now)),
+              );
+          releases = rw (ok, not-by) (releases-stay t raised ∙ before .told .releases ∙ sym (add-zero (releasedIn j calls)));
+        })
+
+  own-follows : Follows s′ (c₀ ∷ calls) i
+  unfolding stage transaction releasedIn began lasted passed during passes releaseOf
+  own-follows = follows s′ (c₀ ∷ calls) i (taskAt s′ i) refl (go said (taskAt s′ i) (moved .own))
+    where
+      mine : eqb i i ≡ true
+      mine = eq-eqb i i refl
+
+      before : Follows s calls i
+      before = every i (moved .below)
+
+      new-sets : isRelease (e .kind) ≡ true → SameSets (setsAt s′ i) (setsOf (e .reads) (e .writes))
+      new-sets r g l = (moved .own-sets r .reads g l, moved .own-sets r .writes g l)
+
+      go : (said : Said) (u : Task) → Own (taskAt s i) e said u → Seen s′ (unsettled e said ∷ calls) i u
+      go said u (arrives kind was late) = record {
+        stands = rw (mine, kind);
+        sets = λ b. absurd (false≢true b);
+        wait = λ w q. absurd (no-wait Plain w refl q);
+        releases = rw (mine, kind);
+      }
+      go said u (runs kind was) = record {
+        stands = rw (mine, kind);
+        sets = λ b. rw (mine, kind) (new-sets (ap isRelease kind));
+        wait = λ w q. absurd (no-wait Executing w refl q);
+        releases = rw (mine, kind) (ap (λ (k : ℕ). k + 1) (before .told .releases));
+      }
+      go said u (waits kind was b k) = record {
+        stands = rw (mine, kind);
+        sets = λ b. rw (mine, kind) (new-sets (ap isRelease kind));
+        wait = λ w q. (
+          rw (mine, kind) (sym (ap releaseOf q)),
+          rw (mine, kind) (sym (ap retriesOf q)),
+          rw (mine, kind) (sym (moved .tick-now)),
+        );
+        releases = rw (mine, kind) (ap (λ (k : ℕ). k + 1) (before .told .releases));
+      }
+      go said u (commits kind was) = record {
+        stands = rw (mine, kind);
+        sets = λ b. absurd (false≢true b);
+        wait = λ w q. absurd (no-wait Plain w refl q);
+        releases = rw (mine, kind) (before .told .releases ∙ sym (add-zero (releasedIn i calls)));
+      }
+      go said u (finishes kind was) = record {
+        stands = rw (mine, kind);
+        sets = λ b. absurd (false≢true b);
+        wait = λ w q. absurd (no-wait Absent w refl q);
+        releases = rw (mine, kind);
+      }
+
+  pub moved-follows : (j : ℕ) → j < s .n → Follows s′ (c₀ ∷ calls) j
+  moved-follows j l = at-or-other i (λ (j : ℕ). j < s .n → Follows s′ (c₀ ∷ calls) j) (λ l. own-follows) (λ j d l. other-follows j l d) j l

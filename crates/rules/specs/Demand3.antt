@@ -1,0 +1,121 @@
+-- Demand 3: 'Over any run of calls from a fresh setup: once running, running until its own commit; one that waits clashes with a running one or has no processor; its
+-- retry count is the number of clashing transactions that committed while it waited, and is at most the sum.' The statements, over any strict ranking that stays
+-- while a job is present, any start and any list of calls, refused ones included. History has what they say of the calls; the proofs are in proofs/Demand3.antt.
+use Prim.Native.Nat.{ℕ, _≤_, _<_}
+use mathlib.Core.Path.{_≡_}
+use mathlib.Core.Logic.{_⊎_, _≢_}
+use mathlib.Core.List.{List, [], _∷_}
+use mathlib.Core.Bool.{Bool, true, false, _||_}
+use lib.ListN.{getD}
+use Rattle.objects.specs.Below.{count}
+use Rattle.objects.specs.Objects.{Sets, Clash}
+use Rattle.rules.specs.declared.Setup.{Setup}
+use Rattle.rules.specs.declared.Wait.{Wait}
+use Rattle.rules.specs.declared.State.{State}
+use Rattle.rules.specs.declared.State.the-variants.{Absent, Plain, Waiting, Executing}
+use Rattle.rules.specs.declared.Session.{Session}
+use Rattle.rules.specs.declared.Event.{Event}
+use Rattle.rules.specs.declared.Summed.{Summed}
+use Rattle.rules.specs.Ranking.{Ranking}
+use Rattle.rules.specs.Tasks.{isAbsent, taskAt, stateAt, waiting, executing, setsAt}
+use Rattle.rules.specs.Setup.{setupNumber, fresh}
+use Rattle.rules.specs.Room.{room}
+use Rattle.rules.specs.Contest.{Blocked}
+use Rattle.rules.specs.Events.{step}
+use Rattle.rules.specs.Sum.{summed}
+use Rattle.rules.specs.Reachable.{Strict, Stays, Sound}
+use Rattle.rules.specs.History.{Call, heard, noAdmission, commits, Stage, absent, plain, waits, executes, stage, transaction, released, began, lasted, waitLength, passed}
+
+-- ---- a run
+
+-- where a run may start: every task absent, and sound
+pub record Start (rank : Ranking) (s : Session) : Type 0 where
+  pub sound : Sound rank s
+  pub absent : (i : ℕ) → i < s .n → isAbsent (stateAt s i) ≡ true
+
+-- 'from a fresh setup'
+abbrev pub FreshStarts : Type 0
+FreshStarts = (rank : Ranking) (u : Setup) → setupNumber u ≡ 0 → Start rank (fresh u)
+
+-- the session and the calls that any list of events leads to
+pub data Run (rank : Ranking) (start : Session) : Session → List Call → Type 0 where
+  begun : Run rank start start []
+  called : {s : Session} {calls : List Call} → Run rank start s calls → (e : Event)
+      → Run rank start (step rank s e .session) (heard e (step rank s e) ∷ calls)
+
+abbrev pub InEveryRun : (Ranking → Session → List Call → Type 0) → Type 0
+InEveryRun P =
+    (rank : Ranking) → Strict rank → Stays rank → (start s : Session) (calls : List Call) → Start rank start → Run rank start s calls
+    → P rank s calls
+
+-- two sets have the same objects: the same four words
+abbrev pub SameSets : Sets → Sets → Type 0
+SameSets x y = (g : ℕ) → g < 4 → (x .reads g ≡ y .reads g) × (x .writes g ≡ y .writes g)
+
+-- ---- 'once running, running until its own commit'
+
+-- a call of the list commits task i's transaction
+unfoldable pub commitsIn : List Call → ℕ → Bool
+commitsIn [] i = false
+commitsIn (c ∷ before) i = commits c i || commitsIn before i
+
+abbrev pub OnceRunning : Type 0
+OnceRunning =
+    InEveryRun (λ rank s calls. (i : ℕ) → i < s .n → executing s i ≡ true
+    → (s′ : Session) (more : List Call) → Run rank s s′ more → commitsIn more i ≡ false
+    → (executing s′ i ≡ true) × SameSets (setsAt s′ i) (setsAt s i))
+
+-- ---- 'one that waits clashes with a running one or has no processor'
+
+abbrev pub HeldBack : Type 0
+HeldBack =
+    InEveryRun (λ rank s calls. (i : ℕ) → i < s .n → waiting s i ≡ true → Blocked s (setsAt s i) ⊎ (room rank s i ≡ false))
+
+-- ---- 'its retry count is the number of clashing transactions that committed while it waited'
+
+abbrev pub RetriesCounted : Type 0
+RetriesCounted =
+    InEveryRun (λ rank s calls. (i : ℕ) (w : Wait) → i < s .n → stateAt s i ≡ Waiting w → w .retries ≡ passed i calls)
+
+-- and of an admission: the call that admits it is one of the calls, so a commit whose scan admits it counts too
+abbrev pub AdmittedCounted : Type 0
+AdmittedCounted =
+    InEveryRun (λ rank s calls. (e : Event) (k : ℕ) → k < step rank s e .admitted .count
+    → let a = getD (step rank s e .admitted .list) k noAdmission in
+    a .retries ≡ passed (a .task) (heard e (step rank s e) ∷ calls))
+
+-- ---- 'and is at most the sum': of its present wait, or of its last one where it does not wait
+
+abbrev pub Bounded : Type 0
+Bounded =
+    InEveryRun (λ rank s calls. (i : ℕ) → i < s .n
+    → let answer = summed s i (waitLength i calls) in
+    (answer .number ≡ 0) × (passed i calls ≤ answer .sum))
+
+-- ---- no two running transactions clash, and at most m run
+
+abbrev pub RunningApart : Type 0
+RunningApart =
+    InEveryRun (λ rank s calls. (i j : ℕ) → i < s .n → j < s .n → i ≢ j → executing s i ≡ true → executing s j ≡ true
+    → Clash (setsAt s i) (setsAt s j) → ⊥)
+
+abbrev pub FewRunning : Type 0
+FewRunning = InEveryRun (λ rank s calls. count (s .n) (executing s) ≤ s .m)
+
+-- ---- history says what the session says
+
+abbrev pub stageOf : State → Stage
+stageOf Absent = absent
+stageOf Plain = plain
+stageOf (Waiting w) = waits
+stageOf Executing = executes
+
+pub record Told (s : Session) (calls : List Call) (i : ℕ) : Type 0 where
+  pub stands : stage i calls ≡ stageOf (stateAt s i)
+  pub sets : (waiting s i || executing s i) ≡ true → SameSets (setsAt s i) (transaction i calls)
+  pub release : (w : Wait) → stateAt s i ≡ Waiting w → w .release ≡ began i calls
+  pub length : (w : Wait) → stateAt s i ≡ Waiting w → lasted i calls ≡ s .tick
+  pub releases : taskAt s i .releases ≡ released i calls
+
+abbrev pub AsTold : Type 0
+AsTold = InEveryRun (λ rank s calls. (i : ℕ) → i < s .n → Told s calls i)

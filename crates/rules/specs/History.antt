@@ -1,0 +1,173 @@
+-- History: what the list of calls and their answers says, and nothing else. A call holds no session and no retry count, so nothing here can be a stored count under
+-- another name. Lists of calls have the latest first.
+use Prim.Native.Nat.{ℕ, _+_, _-_}
+use mathlib.Core.List.{List, [], _∷_}
+use mathlib.Core.Bool.{Bool, true, false, cond, not, _&&_, _||_}
+use lib.Dec.{eqb}
+use Rattle.objects.specs.Below.{one}
+use Rattle.objects.specs.Objects.{Sets, clash, nothing}
+use Rattle.rules.specs.declared.Kind.{Kind}
+use Rattle.rules.specs.declared.Kind.the-variants.{Arrive, Release, Commit, Finish}
+use Rattle.rules.specs.declared.Event.{Event}
+use Rattle.rules.specs.declared.Said.{Said}
+use Rattle.rules.specs.declared.Said.the-variants.{Ok, Run, Wait, No}
+use Rattle.rules.specs.declared.Admission.{Admission}
+use Rattle.rules.specs.declared.Answer.{Answer}
+use Rattle.rules.specs.Answers.{number}
+use Rattle.rules.specs.Tasks.{setsOf}
+use Rattle.rules.specs.Lines.{admissions}
+
+-- ---- calls
+
+-- a call: the event, what was said, and the tasks that its scan admitted, in their order
+pub record Call : Type 0 where
+  pub event : Event
+  pub said : Said
+  pub admitted : List ℕ
+
+unfoldable pub tasksOf : List Admission → List ℕ
+tasksOf [] = []
+tasksOf (a ∷ more) = a .task ∷ tasksOf more
+
+abbrev pub noAdmission : Admission
+noAdmission = record { task = 0; retries = 0 }
+
+-- the call of an event that had this answer
+abbrev pub heard : Event → Answer → Call
+heard e a = record { event = e; said = a .said; admitted = tasksOf (admissions (a .admitted)) }
+
+unfoldable pub names : List ℕ → ℕ → Bool
+names [] i = false
+names (j ∷ more) i = eqb j i || names more i
+
+abbrev pub admits : Call → ℕ → Bool
+admits c i = names (c .admitted) i
+
+abbrev pub accepted : Call → Bool
+accepted c = eqb (number (c .said)) 0
+
+abbrev pub isArrive : Kind → Bool
+isArrive Arrive = true
+isArrive Release = false
+isArrive Commit = false
+isArrive Finish = false
+
+abbrev pub isRelease : Kind → Bool
+isRelease Arrive = false
+isRelease Release = true
+isRelease Commit = false
+isRelease Finish = false
+
+abbrev pub isCommit : Kind → Bool
+isCommit Arrive = false
+isCommit Release = false
+isCommit Commit = true
+isCommit Finish = false
+
+abbrev pub isFinish : Kind → Bool
+isFinish Arrive = false
+isFinish Release = false
+isFinish Commit = false
+isFinish Finish = true
+
+abbrev pub isWait : Said → Bool
+isWait Ok = false
+isWait Run = false
+isWait (Wait b k) = true
+isWait (No k) = false
+
+-- the call is an accepted event of task i, and of this kind
+abbrev pub by : Call → ℕ → Bool
+by c i = accepted c && eqb (c .event .task) i
+
+abbrev pub arrives : Call → ℕ → Bool
+arrives c i = by c i && isArrive (c .event .kind)
+
+abbrev pub releases : Call → ℕ → Bool
+releases c i = by c i && isRelease (c .event .kind)
+
+abbrev pub commits : Call → ℕ → Bool
+commits c i = by c i && isCommit (c .event .kind)
+
+abbrev pub finishes : Call → ℕ → Bool
+finishes c i = by c i && isFinish (c .event .kind)
+
+-- task i's release was answered with wait
+abbrev pub deferred : Call → ℕ → Bool
+deferred c i = releases c i && isWait (c .said)
+
+-- ---- what they say of a task
+
+-- 'A task is in exactly one of four states'
+pub data Stage : Type 0 where
+  absent : Stage
+  plain : Stage
+  waits : Stage
+  executes : Stage
+
+abbrev pub stageAfter : Kind → Said → Stage
+stageAfter Arrive said = plain
+stageAfter Release said = cond (isWait said) waits executes
+stageAfter Commit said = plain
+stageAfter Finish said = absent
+
+-- where the calls leave task i: executing if the last scan to name it came after its own last accepted event, else as that event left it
+unfoldable pub stage : ℕ → List Call → Stage
+unfolding names
+stage i [] = absent
+stage i (c ∷ before) = cond (admits c i) executes (cond (by c i) (stageAfter (c .event .kind) (c .said)) (stage i before))
+
+abbrev pub isWaits : Stage → Bool
+isWaits absent = false
+isWaits plain = false
+isWaits waits = true
+isWaits executes = false
+
+abbrev pub inWait : ℕ → List Call → Bool
+inWait i calls = isWaits (stage i calls)
+
+-- the sets of task i's transaction: those of its last accepted release
+unfoldable pub transaction : ℕ → List Call → Sets
+unfolding nothing
+transaction i [] = nothing
+transaction i (c ∷ before) = cond (releases c i) (setsOf (c .event .reads) (c .event .writes)) (transaction i before)
+
+-- 'the number of releases accepted in its present job (0 while absent)'
+unfoldable pub released : ℕ → List Call → ℕ
+released i [] = 0
+released i (c ∷ before) = cond (arrives c i || finishes c i) 0 (released i before + one (releases c i))
+
+-- ---- its last wait, which may be its present one
+
+-- when it began: the tick of the last release of task i that was answered with wait
+unfoldable pub began : ℕ → List Call → ℕ
+began i [] = 0
+began i (c ∷ before) = cond (deferred c i) (c .event .tick) (began i before)
+
+-- 'A wait runs from its release's tick to the tick of the event that admits it, or to the last accepted tick if it still waits': the last accepted tick up to the
+-- call that ends the wait
+unfoldable pub lasted : ℕ → List Call → ℕ
+unfolding stage
+lasted i [] = 0
+lasted i (c ∷ before) = cond (deferred c i || (accepted c && inWait i before)) (c .event .tick) (lasted i before)
+
+abbrev pub waitLength : ℕ → List Call → ℕ
+waitLength i calls = lasted i calls - began i calls
+
+-- how many calls of the wait have f, each with the calls before it. The call that ends the wait is one of them, and the release is not.
+unfoldable pub during : (Call → List Call → Bool) → ℕ → List Call → ℕ
+unfolding stage
+during f i [] = 0
+during f i (c ∷ before) = cond (deferred c i) 0 (during f i before + one (inWait i before && f c before))
+
+-- the call commits a transaction of another task that clashes with task i's
+unfoldable pub passes : ℕ → Call → List Call → Bool
+unfolding transaction clash
+passes i c before =
+    let j = c .event .task in
+    accepted c && isCommit (c .event .kind) && not (eqb j i) && clash (transaction j before) (transaction i before)
+
+-- 'the number of clashing transactions that committed while it waited'
+unfoldable pub passed : ℕ → List Call → ℕ
+unfolding during passes
+passed i calls = during (passes i) i calls

@@ -1,9 +1,9 @@
 -- Demand 3, proved. Everything but the first theorem is read off what is known at every place of a run; the first is an induction over the further calls.
-use Prim.Native.Nat.{ℕ, _+_, _≤_, _<_}
+use Prim.Native.Nat.{ℕ, _≤_, _<_}
 use mathlib.Core.Path.{_≡_, refl, sym, ap, subst, _∙_}
-use mathlib.Core.Logic.{_⊎_, inl, inr, _≢_}
-use mathlib.Core.List.{List, [], _∷_}
-use mathlib.Core.Bool.{Bool, true, false, cond, _&&_, _||_, false≢true}
+use mathlib.Core.Logic.{inl, inr, _≢_}
+use mathlib.Core.List.{List, _∷_}
+use mathlib.Core.Bool.{Bool, true, false, cond, _&&_, false≢true}
 use native.Mathlib.Nat.{lt-of-lt-of-le, le-trans, le-of-eq}
 use native.Mathlib.Omega.{arith}
 use lib.Dec.{eqb, leb, ltb}
@@ -22,18 +22,16 @@ use Rattle.rules.specs.declared.Session.{Session}
 use Rattle.rules.specs.declared.Event.{Event}
 use Rattle.rules.specs.declared.Said.{Said}
 use Rattle.rules.specs.declared.Answer.{Answer}
-use Rattle.rules.specs.declared.Summed.{Summed}
 use Rattle.rules.specs.Answers.{number}
 use Rattle.rules.specs.Ranking.{Ranking}
-use Rattle.rules.specs.Tasks.{isAbsent, isWaiting, isExecuting, retriesOf, allowed, known, taskAt, stateAt, executing, setsAt}
-use Rattle.rules.specs.Setup.{termsNumber, fresh}
-use Rattle.rules.specs.Events.{raisedState, raisedTask, refused, step}
+use Rattle.rules.specs.Tasks.{isWaiting, isExecuting, retriesOf, allowed, known, taskAt, stateAt, executing, setsAt}
+use Rattle.rules.specs.Setup.{termsNumber}
+use Rattle.rules.specs.Events.{raisedState, raisedTask, step}
 use Rattle.rules.specs.Sum.{share, bound, summed}
 use Rattle.rules.specs.Reachable.{Strict, Stays, Sound}
 use Rattle.rules.specs.History.{Call, heard, noAdmission, commits, waitLength, during, passes, passed}
-use Rattle.rules.specs.Demand3.{Start, Run, begun, called, SameSets, FreshStarts, commitsIn, OnceRunning, HeldBack, RetriesCounted, AdmittedCounted, Bounded, RunningApart, FewRunning, AsTold}
+use Rattle.rules.specs.Demand3.{Run, begun, called, SameSets, FreshStarts, RunSound, RetriesFit, commitsIn, OnceRunning, HeldBack, RetriesCounted, AdmittedCounted, Bounded, RunningApart, AsTold}
 use Rattle.rules.proofs.Laws.Numbers.{must, must-not, allowed-bounds}
-use Rattle.rules.proofs.Laws.Alike.{at-or-other}
 use Rattle.rules.proofs.Laws.Keeping.{kept-sets}
 use Rattle.rules.proofs.Laws.Listed.{Settled, Each}
 use Rattle.rules.proofs.Contest.{blocked-plain}
@@ -48,6 +46,14 @@ use Rattle.rules.proofs.Known.{Known, commitsOf, arrivalsOf, run-known}
 
 pub fresh-starts : FreshStarts
 fresh-starts rank u good = record { sound = fresh-sound rank u good; absent = fresh-absent u good }
+
+pub run-sound : RunSound
+run-sound rank strict stays start s calls begins run = run-known rank strict stays start s calls begins run .sound
+
+pub retries-fit : RetriesFit
+retries-fit rank strict stays start s calls begins run i l =
+    let sound = run-sound rank strict stays start s calls begins run in
+    omega (arith, sound .retries i l, sound .accepted)
 
 -- ---- once running, running until its own commit
 
@@ -121,15 +127,15 @@ still rank strict stays s sound i l x s′ more (called {s = before} {calls = ea
         }
 
 pub once-running : OnceRunning
-once-running rank strict stays start s calls begins run i l x s′ more further none =
-    let p = still rank strict stays s (run-known rank strict stays start s calls begins run .sound) i l x s′ more further none in
+once-running rank strict stays start s calls begins run s′ more further i l x none =
+    let p = still rank strict stays s (run-sound rank strict stays start s calls begins run) i l x s′ more further none in
     (p .runs, p .sets)
 
 -- ---- who waits is held
 
 pub held-back : HeldBack
 held-back rank strict stays start s calls begins run i l w =
-    elim (run-known rank strict stays start s calls begins run .sound .held i l w) [
+    elim (run-sound rank strict stays start s calls begins run .held i l w) [
       | inl b ↦ inl (blocked-plain s (setsAt s i) .0 b)
       | inr r ↦ inr r
     ]
@@ -209,12 +215,12 @@ bounded rank strict stays start s calls begins run i l = go (sound-known rank s 
 -- ---- those that run, and what is told
 
 pub running-apart : RunningApart
-running-apart rank strict stays start s calls begins run i j li lj d x y both =
-    not-both (clash (setsAt s i) (setsAt s j)) (clash-plain (setsAt s i) (setsAt s j) .1 both)
-    (run-known rank strict stays start s calls begins run .sound .apart i j li lj d x y)
-
-pub few-running : FewRunning
-few-running rank strict stays start s calls begins run = run-known rank strict stays start s calls begins run .sound .fit
+running-apart rank strict stays start s calls begins run =
+    let sound = run-sound rank strict stays start s calls begins run in (
+      λ i j li lj d x y both.
+          not-both (clash (setsAt s i) (setsAt s j)) (clash-plain (setsAt s i) (setsAt s j) .1 both) (sound .apart i j li lj d x y),
+      sound .fit,
+    )
 
 pub as-told : AsTold
 as-told rank strict stays start s calls begins run i l = run-known rank strict stays start s calls begins run .follows i l .told

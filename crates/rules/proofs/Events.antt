@@ -124,7 +124,7 @@ module _ (rank : Ranking) (strict : Strict rank) (stays : Stays rank) (s : Sessi
     release-room : (room rank s i ≡ true) × (left-rest ≡ 0)
     release-room = must (room rank s i) left-rest 6 (omega arith) (release-plain .1)
 
-    pub release-left : taskAt s i .releases + 1 ≤ taskAt s i .terms .transactions
+    release-left : taskAt s i .releases + 1 ≤ taskAt s i .terms .transactions
     release-left =
         omega (arith, ltb-true (taskAt s i .releases) (taskAt s i .terms .transactions) (must left 0 7 (omega arith) (release-room .1) .0))
 

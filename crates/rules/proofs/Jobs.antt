@@ -2,18 +2,17 @@
 -- its transactions × A, plus its releases; while it is absent, plus its transactions. And arrivals are a period apart. Both are kept by every move of a task.
 use Prim.Native.Nat.{ℕ, zero, suc, _+_, _-_, _*_, _/_, _≤_, _<_, zero-le}
 use mathlib.Core.Path.{_≡_, refl, sym, ap, _∙_}
-use mathlib.Core.Logic.{_⊎_, inl, inr, _↔_}
+use mathlib.Core.Logic.{_⊎_, inl, inr}
 use mathlib.Core.Bool.{Bool, true, false, cond, _||_, false≢true}
 use native.Mathlib.Nat.{add-zero, mul-add, mul-one, add-mul, one-mul, mul-zero, zero-mul, mul-le-mul-left, le-trans, le-of-eq, le-div-iff-mul-le}
 use native.Mathlib.Omega.{arith}
-use lib.Dec.{ltb}
 use borrow.Author.Tests.{ltb-false}
 use Rattle.objects.specs.Below.{one}
 use Rattle.rules.specs.declared.Terms.{Terms}
 use Rattle.rules.specs.declared.State.{State}
 use Rattle.rules.specs.declared.State.the-variants.{Absent, Plain, Waiting, Executing}
 use Rattle.rules.specs.declared.Arrival.{Arrival}
-use Rattle.rules.specs.declared.Arrival.the-variants.{Never, At}
+use Rattle.rules.specs.declared.Arrival.the-variants.{At}
 use Rattle.rules.specs.declared.Task.{Task}
 use Rattle.rules.specs.declared.Event.{Event}
 use Rattle.rules.specs.declared.Said.{Said}

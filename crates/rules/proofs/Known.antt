@@ -1,39 +1,36 @@
 -- What is known at every place of a run: the session is sound, history says what it says, and while task i waits every task's commits and arrivals are within their
 -- bounds. A start has it and every call keeps it.
-use Prim.Native.Nat.{ℕ, _+_, _-_, _*_, _≤_, _<_, zero-le}
+use Prim.Native.Nat.{ℕ, _+_, _≤_, _<_, zero-le}
 use mathlib.Core.Path.{_≡_, refl, sym, ap, ap₂, subst, _∙_}
-use mathlib.Core.Logic.{_⊎_, inl, inr, _≢_}
+use mathlib.Core.Logic.{inl, inr, _≢_}
 use mathlib.Core.List.{List, [], _∷_}
 use mathlib.Core.Bool.{Bool, true, false, cond, not, _&&_, _||_, false≢true}
 use native.Mathlib.Nat.{add-zero, lt-of-lt-of-le, le-trans, le-of-eq}
 use native.Mathlib.Omega.{arith}
 use lib.Dec.{eqb}
-use borrow.Author.Tests.{eq-eqb, ne-eqb, eqb-true, eqb-false}
+use borrow.Author.Tests.{eq-eqb, ne-eqb}
 use Rattle.objects.specs.Below.{one, sum}
 use Rattle.objects.specs.Objects.{clash}
 use Rattle.objects.proofs.Laws.Below.{one-le, sum-ext, sum-add, sum-term}
-use Rattle.rules.specs.declared.Wait.{Wait}
 use Rattle.rules.specs.declared.State.{State}
-use Rattle.rules.specs.declared.State.the-variants.{Absent, Plain, Waiting, Executing}
-use Rattle.rules.specs.declared.Terms.{Terms}
+use Rattle.rules.specs.declared.State.the-variants.{Absent}
 use Rattle.rules.specs.declared.Task.{Task}
 use Rattle.rules.specs.declared.Session.{Session}
 use Rattle.rules.specs.declared.Kind.{Kind}
 use Rattle.rules.specs.declared.Kind.the-variants.{Arrive, Release, Commit, Finish}
 use Rattle.rules.specs.declared.Event.{Event}
-use Rattle.rules.specs.declared.Said.{Said}
 use Rattle.rules.specs.declared.Answer.{Answer}
 use Rattle.rules.specs.Answers.{number}
 use Rattle.rules.specs.Ranking.{Ranking}
-use Rattle.rules.specs.Tasks.{isAbsent, isPlain, isWaiting, isExecuting, retriesOf, taskAt, stateAt, waiting}
+use Rattle.rules.specs.Tasks.{isWaiting, isExecuting, taskAt, stateAt}
 use Rattle.rules.specs.Events.{refused, step}
 use Rattle.rules.specs.Reachable.{Strict, Stays, Sound}
 use Rattle.rules.specs.History.{Call, heard, tasksOf, names, accepted, by, arrives, commits, deferred, admits, isArrive, isCommit, isRelease, isWait, Stage, waits, executes, stageAfter, stage, isWaits, inWait, transaction, released, began, lasted, waitLength, during, passes, passed}
-use Rattle.rules.specs.Demand3.{Start, Run, begun, called, Told, stageOf}
+use Rattle.rules.specs.Demand3.{Start, Run, begun, called, stageOf}
 use Rattle.rules.proofs.Laws.Alike.{at-or-other}
 use Rattle.rules.proofs.Laws.Listed.{Settled, Each}
 use Rattle.rules.proofs.Events.{absent-is, step-sound}
-use Rattle.rules.proofs.Moves.{Own, passedOver, Moved, Taken, refuses, accepts, taken}
+use Rattle.rules.proofs.Moves.{passedOver, Moved, Taken, refuses, accepts, taken}
 use Rattle.rules.proofs.Told.{Follows, during-goes, plus-none, no-wait, refused-follows, moved-follows, settled-follows}
 use Rattle.rules.proofs.Jobs.{Live, Limited, Ready, Kin, ready-live, nothing-limited, own-live, own-ready, own-terms, kin-refl, kin-trans, kin-raised, kin-admitted, kin-terms, kin-ready, kin-live, live-limited}
 

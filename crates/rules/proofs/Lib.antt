@@ -11,5 +11,4 @@ pub mod Jobs
 pub mod Told
 pub mod Known
 pub mod Demand3
-pub mod Reachable
 pub mod Contest

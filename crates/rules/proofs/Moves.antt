@@ -1,11 +1,11 @@
 -- What an event does, task by task: it is refused and nothing moves, or its own task moves as its kind says, every other stays, but that a commit raises those that it
 -- passes over, and then a scan settles who executes. Whoever wants to know what an event does goes by `taken`.
-use Prim.Native.Nat.{ℕ, zero, suc, _+_, _*_, _≤_, _<_}
+use Prim.Native.Nat.{ℕ, zero, suc, _≤_, _<_}
 use mathlib.Core.Path.{_≡_, refl, sym, ap, _∙_}
 use mathlib.Core.Logic.{_⊎_, inl, inr, _≢_}
 use mathlib.Core.List.{List}
 use mathlib.Core.Bool.{Bool, true, false, cond, _&&_, false≢true}
-use native.Mathlib.Nat.{le-trans, le-of-eq, lt-of-lt-of-le, ne-of-lt, ne-of-gt, not-suc-le-zero}
+use native.Mathlib.Nat.{le-trans, le-of-eq, ne-of-lt, ne-of-gt, not-suc-le-zero}
 use native.Mathlib.Omega.{arith}
 use lib.ListN.{length, getD, set}
 use lib.Seq.{getD-set-same, getD-set-other}
@@ -23,19 +23,19 @@ use Rattle.rules.specs.declared.Said.the-variants.{Ok, Run, Wait}
 use Rattle.rules.specs.declared.Answer.{Answer}
 use Rattle.rules.specs.Answers.{number}
 use Rattle.rules.specs.Ranking.{Ranking}
-use Rattle.rules.specs.Tasks.{isExecuting, noTask, taskAt, stateAt, waiting, setsAt, setsOf, inState, withTask, withSets, withTasks, stamped}
+use Rattle.rules.specs.Tasks.{isExecuting, noTask, taskAt, stateAt, waiting, setsAt, setsOf, inState, withTask, withTasks, stamped}
 use Rattle.rules.specs.Contest.{lowestContested, contestedCount}
 use Rattle.rules.specs.Events.{early, arriveNumber, releaseNumber, commitNumber, finishNumber, refused, still, scanning, arrived, released, releasedInto, raisedTask, raised, empty, committed, finished, step}
 use Rattle.rules.specs.History.{isRelease, isCommit}
 use Rattle.rules.specs.Reachable.{Strict, Stays, Sound}
 use Rattle.rules.proofs.Laws.Tasks.{task-replaced, task-other}
 use Rattle.rules.proofs.Laws.Rows.{Agree}
-use Rattle.rules.proofs.Laws.Numbers.{Timely, must}
+use Rattle.rules.proofs.Laws.Numbers.{must}
 use Rattle.rules.proofs.Laws.Alike.{raised-size}
 use Rattle.rules.proofs.Laws.Steps.{arrive-cases, release-cases, commit-cases, finish-cases, step-cases}
 use Rattle.rules.proofs.Laws.Change.{rows-same, rows-replaced}
 use Rattle.rules.proofs.Laws.Listed.{Settled, none-settled, scan-settled}
-use Rattle.rules.proofs.Events.{plain-is, executing-is, arrive-timely, arrive-was, release-timely, release-plain, release-left, new-sets, commit-timely, finish-timely, finish-was}
+use Rattle.rules.proofs.Events.{plain-is, executing-is, arrive-timely, arrive-was, release-timely, release-plain, new-sets, commit-timely, finish-timely, finish-was}
 
 -- ---- whom a commit raises
 

@@ -1,31 +1,28 @@
 -- History says what the session says. An accepted event is followed in two parts: first what it does itself, with nobody admitted yet, and then what its scan admits.
-use Prim.Native.Nat.{ℕ, _+_, _*_, _≤_, _<_, min}
+use Prim.Native.Nat.{ℕ, _+_, _<_}
 use mathlib.Core.Path.{_≡_, refl, sym, ap, ap₂, subst, _∙_}
-use mathlib.Core.Logic.{_⊎_, inl, inr, _≢_}
+use mathlib.Core.Logic.{inl, inr, _≢_}
 use mathlib.Core.List.{List, [], _∷_}
-use mathlib.Core.Bool.{Bool, true, false, cond, not, _&&_, _||_, false≢true}
-use native.Mathlib.Nat.{add-zero, lt-of-lt-of-le, le-of-eq}
+use mathlib.Core.Bool.{Bool, true, false, cond, _&&_, _||_, false≢true}
+use native.Mathlib.Nat.{add-zero}
 use native.Mathlib.Omega.{arith}
 use lib.Dec.{eqb}
-use borrow.Author.Tests.{eq-eqb, ne-eqb, eqb-true, eqb-false}
+use borrow.Author.Tests.{eq-eqb, ne-eqb}
 use Rattle.objects.specs.Below.{one}
 use Rattle.objects.specs.Objects.{Sets, clash}
-use Rattle.objects.proofs.Laws.Below.{not-both, or-left, or-right}
+use Rattle.objects.proofs.Laws.Below.{or-left, or-right}
 use Rattle.rules.specs.declared.Wait.{Wait}
 use Rattle.rules.specs.declared.State.{State}
 use Rattle.rules.specs.declared.State.the-variants.{Absent, Plain, Waiting, Executing}
 use Rattle.rules.specs.declared.Task.{Task}
 use Rattle.rules.specs.declared.Session.{Session}
-use Rattle.rules.specs.declared.Kind.{Kind}
-use Rattle.rules.specs.declared.Kind.the-variants.{Arrive, Release, Commit, Finish}
 use Rattle.rules.specs.declared.Event.{Event}
 use Rattle.rules.specs.declared.Said.{Said}
-use Rattle.rules.specs.declared.Said.the-variants.{Ok, Run, Wait as Waits}
 use Rattle.rules.specs.declared.Answer.{Answer}
 use Rattle.rules.specs.Answers.{number}
 use Rattle.rules.specs.Tasks.{isWaiting, isExecuting, retriesOf, taskAt, stateAt, waiting, executing, setsAt, setsOf, inState}
-use Rattle.rules.specs.Events.{raisedState, raisedTask, arrived, released, finished, refused}
-use Rattle.rules.specs.History.{Call, heard, tasksOf, names, by, accepted, admits, isCommit, isRelease, Stage, absent, plain, waits as waitsStage, executes, stage, isWaits, inWait, transaction, began, lasted, deferred, during, passes, passed}
+use Rattle.rules.specs.Events.{raisedState, raisedTask, refused}
+use Rattle.rules.specs.History.{Call, heard, tasksOf, names, accepted, admits, isCommit, isRelease, Stage, absent, plain, waits as waitsStage, executes, stage, isWaits, inWait, transaction, began, lasted, deferred, during, passes, passed}
 use Rattle.rules.specs.History.{released as releasedIn}
 use Rattle.rules.specs.Demand3.{SameSets, stageOf, Told}
 use Rattle.rules.proofs.Laws.Rows.{Agree, clash-agree}

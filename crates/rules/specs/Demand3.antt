@@ -1,7 +1,7 @@
 -- Demand 3: 'Over any run of calls from a fresh setup: once running, running until its own commit; one that waits clashes with a running one or has no processor; its
 -- retry count is the number of clashing transactions that committed while it waited, and is at most the sum.' The statements, over any strict ranking that stays
 -- while a job is present, any start and any list of calls, refused ones included. History has what they say of the calls; the proofs are in proofs/Demand3.antt.
-use Prim.Native.Nat.{ℕ, _≤_, _<_}
+use Prim.Native.Nat.{ℕ, _+_, _≤_, _<_}
 use mathlib.Core.Path.{_≡_}
 use mathlib.Core.Logic.{_⊎_, _≢_}
 use mathlib.Core.List.{List, [], _∷_}
@@ -15,9 +15,9 @@ use Rattle.rules.specs.declared.State.{State}
 use Rattle.rules.specs.declared.State.the-variants.{Absent, Plain, Waiting, Executing}
 use Rattle.rules.specs.declared.Session.{Session}
 use Rattle.rules.specs.declared.Event.{Event}
-use Rattle.rules.specs.declared.Summed.{Summed}
+use Rattle.rules.specs.declared.Answer.{Answer}
 use Rattle.rules.specs.Ranking.{Ranking}
-use Rattle.rules.specs.Tasks.{isAbsent, taskAt, stateAt, waiting, executing, setsAt}
+use Rattle.rules.specs.Tasks.{isAbsent, retriesOf, taskAt, stateAt, waiting, executing, setsAt}
 use Rattle.rules.specs.Setup.{setupNumber, fresh}
 use Rattle.rules.specs.Room.{room}
 use Rattle.rules.specs.Contest.{Blocked}
@@ -44,65 +44,83 @@ pub data Run (rank : Ranking) (start : Session) : Session → List Call → Type
       → Run rank start (step rank s e .session) (heard e (step rank s e) ∷ calls)
 
 abbrev pub InEveryRun : (Ranking → Session → List Call → Type 0) → Type 0
-InEveryRun P =
+InEveryRun Holds =
     (rank : Ranking) → Strict rank → Stays rank → (start s : Session) (calls : List Call) → Start rank start → Run rank start s calls
-    → P rank s calls
+    → Holds rank s calls
 
--- two sets have the same objects: the same four words
+-- every session of a run is sound, and so no largest value is ever reached: a retry count, and one more, is below the largest that is held
+abbrev pub RunSound : Type 0
+RunSound = InEveryRun (λ rank s calls. Sound rank s)
+
+abbrev pub RetriesFit : Type 0
+RetriesFit = InEveryRun (λ rank s calls. (i : ℕ) → i < s .n → retriesOf (stateAt s i) + 1 < 4294967295)
+
+-- two transactions have the same objects: the same four words of each set
 abbrev pub SameSets : Sets → Sets → Type 0
 SameSets x y = (g : ℕ) → g < 4 → (x .reads g ≡ y .reads g) × (x .writes g ≡ y .writes g)
 
--- ---- 'once running, running until its own commit'
+-- ---- a. 'once running, running until its own commit'
 
 -- a call of the list commits task i's transaction
 unfoldable pub commitsIn : List Call → ℕ → Bool
 commitsIn [] i = false
 commitsIn (c ∷ before) i = commits c i || commitsIn before i
 
-abbrev pub OnceRunning : Type 0
-OnceRunning =
-    InEveryRun (λ rank s calls. (i : ℕ) → i < s .n → executing s i ≡ true
-    → (s′ : Session) (more : List Call) → Run rank s s′ more → commitsIn more i ≡ false
-    → (executing s′ i ≡ true) × SameSets (setsAt s′ i) (setsAt s i))
+-- from s by further calls to s′, none of which commits it, it runs on, with the same sets
+abbrev pub RunsOn : Session → Session → List Call → Type 0
+RunsOn s s′ more =
+    (i : ℕ) → i < s .n → executing s i ≡ true → commitsIn more i ≡ false → (executing s′ i ≡ true) × SameSets (setsAt s′ i) (setsAt s i)
 
--- ---- 'one that waits clashes with a running one or has no processor'
+abbrev pub OnceRunning : Type 0
+OnceRunning = InEveryRun (λ rank s calls. (s′ : Session) (more : List Call) → Run rank s s′ more → RunsOn s s′ more)
+
+-- ---- b. 'one that waits clashes with a running one or has no processor'
+
+abbrev pub Held : Ranking → Session → Type 0
+Held rank s = (i : ℕ) → i < s .n → waiting s i ≡ true → Blocked s (setsAt s i) ⊎ (room rank s i ≡ false)
 
 abbrev pub HeldBack : Type 0
-HeldBack =
-    InEveryRun (λ rank s calls. (i : ℕ) → i < s .n → waiting s i ≡ true → Blocked s (setsAt s i) ⊎ (room rank s i ≡ false))
+HeldBack = InEveryRun (λ rank s calls. Held rank s)
 
--- ---- 'its retry count is the number of clashing transactions that committed while it waited'
+-- ---- c. 'its retry count is the number of clashing transactions that committed while it waited'
+
+abbrev pub Counts : Session → List Call → Type 0
+Counts s calls = (i : ℕ) (w : Wait) → i < s .n → stateAt s i ≡ Waiting w → w .retries ≡ passed i calls
 
 abbrev pub RetriesCounted : Type 0
-RetriesCounted =
-    InEveryRun (λ rank s calls. (i : ℕ) (w : Wait) → i < s .n → stateAt s i ≡ Waiting w → w .retries ≡ passed i calls)
+RetriesCounted = InEveryRun (λ rank s calls. Counts s calls)
 
--- and of an admission: the call that admits it is one of the calls, so a commit whose scan admits it counts too
+-- and of each admission: the call that admits it is one of the calls, so a commit whose scan admits it counts too
+abbrev pub AdmissionsCount : Event → Answer → List Call → Type 0
+AdmissionsCount e answer calls =
+    (k : ℕ) → k < answer .admitted .count
+    → let a = getD (answer .admitted .list) k noAdmission in
+    a .retries ≡ passed (a .task) (heard e answer ∷ calls)
+
 abbrev pub AdmittedCounted : Type 0
-AdmittedCounted =
-    InEveryRun (λ rank s calls. (e : Event) (k : ℕ) → k < step rank s e .admitted .count
-    → let a = getD (step rank s e .admitted .list) k noAdmission in
-    a .retries ≡ passed (a .task) (heard e (step rank s e) ∷ calls))
+AdmittedCounted = InEveryRun (λ rank s calls. (e : Event) → AdmissionsCount e (step rank s e) calls)
 
--- ---- 'and is at most the sum': of its present wait, or of its last one where it does not wait
+-- ---- d. 'and is at most the sum': of its present wait, or of its last one where it does not wait
+
+abbrev pub Within : Session → List Call → Type 0
+Within s calls =
+    (i : ℕ) → i < s .n
+    → let answer = summed s i (waitLength i calls) in
+    (answer .number ≡ 0) × (passed i calls ≤ answer .sum)
 
 abbrev pub Bounded : Type 0
-Bounded =
-    InEveryRun (λ rank s calls. (i : ℕ) → i < s .n
-    → let answer = summed s i (waitLength i calls) in
-    (answer .number ≡ 0) × (passed i calls ≤ answer .sum))
+Bounded = InEveryRun (λ rank s calls. Within s calls)
 
--- ---- no two running transactions clash, and at most m run
+-- ---- e. no two running transactions clash, and at most m run
+
+abbrev pub Apart : Session → Type 0
+Apart s =
+    (i j : ℕ) → i < s .n → j < s .n → i ≢ j → executing s i ≡ true → executing s j ≡ true → Clash (setsAt s i) (setsAt s j) → ⊥
 
 abbrev pub RunningApart : Type 0
-RunningApart =
-    InEveryRun (λ rank s calls. (i j : ℕ) → i < s .n → j < s .n → i ≢ j → executing s i ≡ true → executing s j ≡ true
-    → Clash (setsAt s i) (setsAt s j) → ⊥)
+RunningApart = InEveryRun (λ rank s calls. Apart s × (count (s .n) (executing s) ≤ s .m))
 
-abbrev pub FewRunning : Type 0
-FewRunning = InEveryRun (λ rank s calls. count (s .n) (executing s) ≤ s .m)
-
--- ---- history says what the session says
+-- ---- f. history says what the session says
 
 abbrev pub stageOf : State → Stage
 stageOf Absent = absent
@@ -110,6 +128,7 @@ stageOf Plain = plain
 stageOf (Waiting w) = waits
 stageOf Executing = executes
 
+-- task i's state; its sets; its wait's beginning, and that it has come to the last accepted tick; its releases
 pub record Told (s : Session) (calls : List Call) (i : ℕ) : Type 0 where
   pub stands : stage i calls ≡ stageOf (stateAt s i)
   pub sets : (waiting s i || executing s i) ≡ true → SameSets (setsAt s i) (transaction i calls)

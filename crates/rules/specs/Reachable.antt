@@ -1,8 +1,8 @@
--- What holds of every session that a setup and events lead to: one record, which the fresh session has and every event keeps.
+-- What holds of every session that a setup and events lead to: one record, which the fresh session has and every event keeps. Demand3 says it of every run.
 use Prim.Native.Nat.{ℕ, _+_, _*_, _≤_, _<_}
 use mathlib.Core.Path.{_≡_}
 use mathlib.Core.Logic.{_⊎_, _≢_}
-use mathlib.Core.Bool.{Bool, true, false}
+use mathlib.Core.Bool.{true, false}
 use lib.ListN.{length, getD}
 use Rattle.objects.specs.Below.{count}
 use Rattle.objects.specs.Objects.{clash}
@@ -13,7 +13,7 @@ use Rattle.rules.specs.declared.Session.{Session}
 use Rattle.rules.specs.declared.Event.{Event}
 use Rattle.rules.specs.Answers.{number}
 use Rattle.rules.specs.Ranking.{Ranking}
-use Rattle.rules.specs.Tasks.{isAbsent, isPlain, isWaiting, isExecuting, retriesOf, taskAt, stateAt, waiting, executing, setsAt, noTask}
+use Rattle.rules.specs.Tasks.{isAbsent, retriesOf, taskAt, stateAt, waiting, executing, setsAt, noTask}
 use Rattle.rules.specs.Setup.{setupNumber, fresh, termsNumber}
 use Rattle.rules.specs.Room.{room}
 use Rattle.rules.specs.Contest.{blocked}
@@ -61,11 +61,6 @@ pub record Sound (rank : Ranking) (s : Session) : Type 0 where
   pub gone : (i : ℕ) → i < s .n → isAbsent (stateAt s i) ≡ true → taskAt s i .releases ≡ 0
   pub past : (i : ℕ) → s .n ≤ i → i < 64 → taskAt s i ≡ noTask
 
--- a session that a setup and events lead to
-pub data Reachable (rank : Ranking) : Session → Type 0 where
-  started : (u : Setup) → setupNumber u ≡ 0 → Reachable rank (fresh u)
-  stepped : {s : Session} → Reachable rank s → (e : Event) → Reachable rank (step rank s e .session)
-
 -- ---- the statements
 
 abbrev pub FreshSound : Type 0
@@ -73,9 +68,6 @@ FreshSound = (rank : Ranking) (u : Setup) → setupNumber u ≡ 0 → Sound rank
 
 abbrev pub StepSound : Type 0
 StepSound = (rank : Ranking) → Strict rank → Stays rank → (s : Session) (e : Event) → Sound rank s → Sound rank (step rank s e .session)
-
-abbrev pub ReachableSound : Type 0
-ReachableSound = (rank : Ranking) → Strict rank → Stays rank → (s : Session) → Reachable rank s → Sound rank s
 
 -- 'A refused event changes no part of the session': of any session at all
 abbrev pub RefusedSame : Type 0
@@ -90,12 +82,6 @@ AcceptedOne =
 -- 'There are never more than m', of any session at all
 abbrev pub AdmittedFew : Type 0
 AdmittedFew = (rank : Ranking) (s : Session) (e : Event) → step rank s e .admitted .count ≤ s .m
-
--- no largest value is ever reached: a retry count, and one more, is below the largest that is held
-abbrev pub RetriesFit : Type 0
-RetriesFit =
-    (rank : Ranking) → Strict rank → Stays rank → (s : Session) → Reachable rank s → (i : ℕ) → i < s .n
-    → retriesOf (stateAt s i) + 1 < 4294967295
 
 -- the base's ranking is such a one
 abbrev pub PriorityStrict : Ranking → Type 0

@@ -1,8 +1,8 @@
 -- What a scan lists is what it does: a task is named exactly if it waited before and executes now, and it is listed with the retry count that it had.
-use Prim.Native.Nat.{ℕ, suc, _+_, _≤_, _<_}
+use Prim.Native.Nat.{ℕ, _+_, _≤_, _<_}
 use mathlib.Core.Path.{_≡_, refl, sym, ap, subst, _∙_}
 use mathlib.Core.Logic.{_⊎_, inl, inr, _≢_}
-use mathlib.Core.Bool.{Bool, true, false, _||_, false≢true}
+use mathlib.Core.Bool.{Bool, true, false, _||_}
 use mathlib.Core.List.{List, [], _∷_, _++_}
 use native.Mathlib.Nat.{lt-of-lt-of-le, le-of-eq, ne-of-lt}
 use native.Mathlib.Numerals.{add-one}
@@ -19,8 +19,8 @@ use Rattle.rules.specs.declared.Session.{Session}
 use Rattle.rules.specs.declared.Admission.{Admission}
 use Rattle.rules.specs.declared.Admissions.{Admissions}
 use Rattle.rules.specs.Ranking.{Ranking}
-use Rattle.rules.specs.Tasks.{isWaiting, retriesOf, taskAt, stateAt, waiting, executing, inState}
-use Rattle.rules.specs.Scan.{Scanned, none, listed, admit, admissible, scan}
+use Rattle.rules.specs.Tasks.{isWaiting, retriesOf, taskAt, stateAt, waiting, inState}
+use Rattle.rules.specs.Scan.{Scanned, none, listed, admit, scan}
 use Rattle.rules.specs.Lines.{admissions}
 use Rattle.rules.specs.History.{tasksOf, names, noAdmission}
 use Rattle.rules.proofs.Laws.Kept.{Kept}

@@ -1,5 +1,6 @@
 // Document 01's worked cases, run through the functions: the whole session, the first item under 'Easy to get wrong', and each refusal from 1 to 13, seen with
-// the session that it leaves.
+// the session that it leaves; then how near the sum a retry count comes.
+mod near;
 mod print;
 mod same;
 
@@ -10,7 +11,7 @@ use rules::Setup;
 use rules::Terms;
 
 // A setup of four tasks, or of the first n of them.
-fn setup_of(m: u8, n: u8, a: Terms, b: Terms, c: Terms, d: Terms) -> Setup {
+pub(crate) fn setup_of(m: u8, n: u8, a: Terms, b: Terms, c: Terms, d: Terms) -> Setup {
     let mut terms = [Terms {
         priority: 0,
         period: 0,
@@ -27,7 +28,7 @@ fn setup_of(m: u8, n: u8, a: Terms, b: Terms, c: Terms, d: Terms) -> Setup {
     }
 }
 
-fn terms_of(priority: u16, period: u32, transactions: u8) -> Terms {
+pub(crate) fn terms_of(priority: u16, period: u32, transactions: u8) -> Terms {
     Terms {
         priority: priority,
         period: period,
@@ -36,7 +37,7 @@ fn terms_of(priority: u16, period: u32, transactions: u8) -> Terms {
 }
 
 // An event with no sets.
-fn event(kind: Kind, tick: u32, task: u8) -> Event {
+pub(crate) fn event(kind: Kind, tick: u32, task: u8) -> Event {
     Event {
         kind: kind,
         tick: tick,
@@ -47,7 +48,7 @@ fn event(kind: Kind, tick: u32, task: u8) -> Event {
 }
 
 // A release that reads and writes objects of the first group.
-fn release(tick: u32, task: u8, reads: u64, writes: u64) -> Event {
+pub(crate) fn release(tick: u32, task: u8, reads: u64, writes: u64) -> Event {
     Event {
         kind: Kind::Release,
         tick: tick,
@@ -58,7 +59,7 @@ fn release(tick: u32, task: u8, reads: u64, writes: u64) -> Event {
 }
 
 // One event: its lines, and the session after it.
-fn go(s: Session, e: Event) -> Session {
+pub(crate) fn go(s: Session, e: Event) -> Session {
     let answer = session::step(s, e);
     print::answer_lines(e, answer);
     answer.session
@@ -189,4 +190,6 @@ fn main() {
     let s = first_refusals(fresh);
     last_refusals(s);
     bad_setups(a, b);
+    near::both_ends();
+    near::three_tasks();
 }

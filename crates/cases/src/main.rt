@@ -1,5 +1,6 @@
-// Document 01's worked cases, run through the functions: the whole session, the first item under 'Easy to get wrong', and each refusal from 1 to 13, seen with
-// the session that it leaves; then how near the sum a retry count comes.
+// Document 01's worked cases, each refusal from 1 to 13, and how near the sum a retry count comes.
+//
+// The whole session and the first item under 'Easy to get wrong' are printed as 01 has them; with each refusal it is seen that the session stays.
 mod near;
 mod print;
 mod same;

@@ -1,0 +1,164 @@
+//! An independent reading of document 01: its rules, its log and its replay lines, written from
+//! that document alone, to be compared with another program that follows it.
+//!
+//! Subcommands:
+//!
+//! - `second replay < LOG` prints the lines of a log.
+//! - `second log < TEXT > LOG` makes a log of a readable text.
+//! - `second text < LOG > TEXT` makes a readable text of a log.
+//! - `second make SEED KIND [EVENTS [M N]] > LOG` makes a random log.
+//! - `second compare PROGRAM [ARGS...]` compares another replay program with this one.
+//! - `second bench PROGRAM [ARGS...]` times another replay program against this one.
+//!
+//! To read it in order: `rules` (sessions and events), `log` (records), `lines` (the replay),
+//! `text`; then `random` and `damage` (logs to try), `vectors` (sessions written down), `tally`,
+//! `compare` and `bench`.
+
+mod bench;
+mod compare;
+mod damage;
+mod lines;
+mod log;
+mod random;
+mod rules;
+mod tally;
+mod text;
+mod vectors;
+
+use std::ffi::OsString;
+use std::io::{self, BufReader, BufWriter, ErrorKind, Read, Write};
+use std::process::ExitCode;
+use std::str::FromStr;
+
+use crate::log::Fault;
+use crate::random::Size;
+
+const BUFFER: usize = 1 << 16;
+
+fn main() -> ExitCode {
+    let arguments: Vec<OsString> = std::env::args_os().skip(1).collect();
+    match run(&arguments) {
+        Ok(status) => status,
+        // The reader of the output has gone: nobody is left to tell.
+        Err(error) if error.kind() == ErrorKind::BrokenPipe => ExitCode::FAILURE,
+        Err(error) => fail(&error.to_string()),
+    }
+}
+
+fn run(arguments: &[OsString]) -> io::Result<ExitCode> {
+    let words: Vec<&str> = arguments.iter().map_while(|word| word.to_str()).collect();
+    match words.as_slice() {
+        ["replay"] => replay(),
+        ["log"] => log_of_text(),
+        ["text"] => text_of_log(),
+        ["make", seed, kind, size @ ..] => make(seed, kind, size),
+        ["compare", ..] if arguments.len() > 1 => {
+            let passed = compare::compare(&arguments[1..], &mut io::stdout().lock())?;
+            Ok(if passed {
+                ExitCode::SUCCESS
+            } else {
+                ExitCode::FAILURE
+            })
+        }
+        ["bench", ..] if arguments.len() > 1 => {
+            let passed = bench::bench(&arguments[1..], &mut io::stdout().lock())?;
+            Ok(if passed {
+                ExitCode::SUCCESS
+            } else {
+                ExitCode::FAILURE
+            })
+        }
+        _ => Ok(usage()),
+    }
+}
+
+/// Says on standard error what went wrong.
+fn fail(what: &str) -> ExitCode {
+    let _ = writeln!(io::stderr(), "second: {what}");
+    ExitCode::FAILURE
+}
+
+fn usage() -> ExitCode {
+    let kinds: Vec<&str> = damage::DAMAGES.iter().map(|(name, _)| *name).collect();
+    let text = "\
+second replay < LOG
+second log < TEXT > LOG
+second text < LOG > TEXT
+second make SEED KIND [EVENTS [M N]] > LOG
+second compare PROGRAM [ARGS...]
+second bench PROGRAM [ARGS...]";
+    let _ = writeln!(io::stderr(), "{text}");
+    let _ = writeln!(
+        io::stderr(),
+        "KIND: good busy full flock {}",
+        kinds.join(" ")
+    );
+    ExitCode::from(2)
+}
+
+fn input() -> impl Read {
+    BufReader::with_capacity(BUFFER, io::stdin().lock())
+}
+
+fn print(bytes: &[u8]) -> io::Result<ExitCode> {
+    let mut output = io::stdout().lock();
+    output.write_all(bytes)?;
+    output.flush()?;
+    Ok(ExitCode::SUCCESS)
+}
+
+fn replay() -> io::Result<ExitCode> {
+    let mut output = BufWriter::with_capacity(BUFFER, io::stdout().lock());
+    lines::replay(input(), &mut output, |_, _| {})?;
+    output.flush()?;
+    Ok(ExitCode::SUCCESS)
+}
+
+fn log_of_text() -> io::Result<ExitCode> {
+    let mut text = Vec::new();
+    input().read_to_end(&mut text)?;
+    match text::log_of_text(&text) {
+        Ok(log) => print(&log),
+        Err(error) => Ok(fail(&format!("line {}: {}", error.line, error.what))),
+    }
+}
+
+fn text_of_log() -> io::Result<ExitCode> {
+    match text::text_of_log(input()) {
+        Ok(text) => print(text.as_bytes()),
+        Err(Fault::Stream(error)) => Err(error),
+        Err(Fault::Bad(refusal)) => {
+            let _ = writeln!(io::stderr(), "bad {}", refusal.number());
+            Ok(ExitCode::FAILURE)
+        }
+    }
+}
+
+fn make(seed: &str, kind: &str, size: &[&str]) -> io::Result<ExitCode> {
+    let log = make_of_words(seed, kind, size);
+    log.map_or_else(|| Ok(usage()), |log| print(&log))
+}
+
+/// The log asked for; nothing if a word is not understood or a size is not allowed.
+fn make_of_words(seed: &str, kind: &str, words: &[&str]) -> Option<Vec<u8>> {
+    let seed: u64 = number(seed, 0, u64::MAX)?;
+    let mut size = Size::of_seed(seed);
+    if let Some(events) = words.first() {
+        size.events = number(events, 0, 10_000_000)?;
+    }
+    match words {
+        [] | [_] => {}
+        [_, processors, tasks] => {
+            size.processors = number(processors, 1, rules::MOST_PROCESSORS)?;
+            size.tasks = number(tasks, 1, rules::MOST_TASKS as u8)?;
+        }
+        _ => return None,
+    }
+    damage::make(seed, kind, size)
+}
+
+fn number<T: FromStr + PartialOrd>(word: &str, low: T, high: T) -> Option<T> {
+    word.parse()
+        .ok()
+        .filter(|number| (low..=high).contains(number))
+}

@@ -1,0 +1,415 @@
+//! Random logs that read well. The same seed always gives the same log.
+//!
+//! The generator keeps a session of its own, so that it can choose events that are accepted, and
+//! wrong ones only as often as it wants to.
+
+use std::collections::BTreeSet;
+
+use crate::log::{write_end, write_event, write_setup};
+use crate::rules::{Action, Event, Session, Setup, State, Task, Transaction};
+use crate::rules::{LONGEST_PERIOD, MOST_ACCEPTED};
+
+/// A small generator of numbers (splitmix64).
+pub struct Random(u64);
+
+impl Random {
+    pub fn new(seed: u64) -> Random {
+        Random(seed)
+    }
+
+    fn next(&mut self) -> u64 {
+        self.0 = self.0.wrapping_add(0x9e37_79b9_7f4a_7c15);
+        let mut mixed = self.0;
+        mixed = (mixed ^ (mixed >> 30)).wrapping_mul(0xbf58_476d_1ce4_e5b9);
+        mixed = (mixed ^ (mixed >> 27)).wrapping_mul(0x94d0_49bb_1331_11eb);
+        mixed ^ (mixed >> 31)
+    }
+
+    /// A number from 0 to `limit` - 1.
+    pub fn below(&mut self, limit: usize) -> usize {
+        (self.next() % limit as u64) as usize
+    }
+
+    /// A number from `low` to `high`, both included.
+    pub fn between(&mut self, low: u32, high: u32) -> u32 {
+        low + (self.next() % (u64::from(high - low) + 1)) as u32
+    }
+
+    /// A number from 1 to `high`, and one time in eight `high` itself.
+    fn up_to(&mut self, high: u32) -> u32 {
+        if self.below(8) == 0 {
+            high
+        } else {
+            self.between(1, high)
+        }
+    }
+
+    /// True so many times in a hundred.
+    pub fn percent(&mut self, share: u32) -> bool {
+        self.between(0, 99) < share
+    }
+
+    pub fn pick<T: Copy>(&mut self, choices: &[T]) -> T {
+        choices[self.below(choices.len())]
+    }
+}
+
+/// How large a log is.
+#[derive(Clone, Copy, Debug)]
+pub struct Size {
+    pub processors: u8,
+    pub tasks: u8,
+    pub events: u32,
+}
+
+impl Size {
+    pub fn new(processors: u8, tasks: u8, events: u32) -> Size {
+        Size {
+            processors,
+            tasks,
+            events,
+        }
+    }
+
+    /// The size that goes with a seed: 1,024 seeds in a row give every m with every n.
+    pub fn of_seed(seed: u64) -> Size {
+        Size {
+            processors: (1 + seed / 64 % 16) as u8,
+            tasks: (1 + seed % 64) as u8,
+            events: Random::new(!seed).between(0, 150),
+        }
+    }
+}
+
+/// How the tasks of a log behave.
+struct Style {
+    /// The objects that transactions are made of.
+    objects: Vec<u8>,
+    most_reads: usize,
+    least_writes: usize,
+    most_writes: usize,
+    /// Of a hundred transactions, how many write every one of the objects.
+    write_all: u32,
+    /// Of a hundred choices of a plain task, how many are to finish.
+    finish: u32,
+    /// Of a hundred events, how many are chosen without a look at the rules.
+    wrong: u32,
+    /// The most ticks from one event to the next.
+    step: u32,
+    /// The tick of the first events.
+    start: u32,
+}
+
+impl Style {
+    /// A style of its own for every log.
+    fn mixed(random: &mut Random) -> Style {
+        let most_writes = random.pick(&[0, 1, 2, 8]);
+        Style {
+            objects: mixed_objects(random),
+            most_reads: random.pick(&[0, 2, 8]),
+            least_writes: random.below(2).min(most_writes),
+            most_writes,
+            write_all: random.pick(&[0, 2, 10, 40]),
+            finish: random.pick(&[2, 10, 40]),
+            wrong: random.pick(&[0, 5, 10, 40]),
+            step: random.pick(&[0, 1, 2, 10, 1000]),
+            start: random.pick(&[0, 0, 0, 1, 65_530, u32::MAX - 5000, u32::MAX - 20]),
+        }
+    }
+
+    /// A busy box: jobs with many transactions, of which about one in four waits.
+    fn busy(size: Size) -> Style {
+        let objects = (9 * size.processors).saturating_sub(10).max(1);
+        Style {
+            objects: (0..objects).collect(),
+            most_reads: 2,
+            least_writes: 1,
+            most_writes: 2,
+            write_all: 0,
+            finish: 3,
+            wrong: 1,
+            step: 1,
+            start: 0,
+        }
+    }
+}
+
+fn mixed_objects(random: &mut Random) -> Vec<u8> {
+    match random.below(5) {
+        0 => vec![random.below(256) as u8],
+        1 => vec![0, 7, 8, 31, 32, 63, 64, 127, 128, 191, 192, 255],
+        2 => (0..=255).collect(),
+        _ => {
+            let count = random.between(2, 20);
+            (0..count).map(|_| random.below(256) as u8).collect()
+        }
+    }
+}
+
+/// A good log, as the seed will have it.
+pub fn good_log(random: &mut Random, size: Size) -> Vec<u8> {
+    let style = Style::mixed(random);
+    let setup = mixed_setup(random, size);
+    let mut maker = Maker::new(random, style, setup);
+    for _ in 0..size.events {
+        maker.add_chosen_event();
+    }
+    maker.end()
+}
+
+/// A log of a busy box.
+pub fn busy_log(random: &mut Random, size: Size) -> Vec<u8> {
+    let setup = busy_setup(random, size);
+    let mut maker = Maker::new(random, Style::busy(size), setup);
+    for _ in 0..size.events {
+        maker.add_chosen_event();
+    }
+    maker.end()
+}
+
+/// A busy log that goes on until no more events are accepted, and then for `size.events` more.
+pub fn full_log(random: &mut Random, size: Size) -> Vec<u8> {
+    let setup = busy_setup(random, size);
+    let mut maker = Maker::new(random, Style::busy(size), setup);
+    while maker.session.accepted() < MOST_ACCEPTED {
+        maker.add_chosen_event();
+    }
+    maker.style.wrong = 50;
+    for _ in 0..size.events {
+        maker.add_chosen_event();
+    }
+    maker.end()
+}
+
+/// Task 0 writes every object and all the others come to wait for it, so that its commit admits
+/// as many as there is room for. Then `size.events` more.
+pub fn flock_log(random: &mut Random, size: Size) -> Vec<u8> {
+    let style = Style::mixed(random);
+    let setup = busy_setup(random, size);
+    let mut maker = Maker::new(random, style, setup);
+    for task in 0..size.tasks {
+        let (reads, writes) = match task {
+            0 => (BTreeSet::new(), (0..=255).collect()),
+            _ => (BTreeSet::from([task]), BTreeSet::new()),
+        };
+        let release = Action::Release(Transaction { reads, writes });
+        maker.add(0, task, Action::Arrive);
+        maker.add(0, task, release);
+    }
+    maker.add(1, 0, Action::Commit);
+    for _ in 0..size.events {
+        maker.add_chosen_event();
+    }
+    maker.end()
+}
+
+fn mixed_setup(random: &mut Random, size: Size) -> Setup {
+    let most_priority = random.pick(&[1, 3, 100, 65_535]);
+    let most_period = random.pick(&[1, 5, 50, 5000, LONGEST_PERIOD]);
+    let most_transactions = random.pick(&[2, 5, 255]);
+    let tasks = (0..size.tasks).map(|_| Task {
+        priority: random.up_to(most_priority) as u16,
+        period: random.up_to(most_period),
+        transactions: random.between(0, most_transactions) as u8,
+    });
+    Setup {
+        processors: size.processors,
+        tasks: tasks.collect(),
+    }
+}
+
+/// Short periods, so that jobs come again and again, with many transactions each.
+fn busy_setup(random: &mut Random, size: Size) -> Setup {
+    let tasks = (0..size.tasks).map(|_| Task {
+        priority: random.between(1, 65_535) as u16,
+        period: random.between(1, 20),
+        transactions: random.between(100, 255) as u8,
+    });
+    Setup {
+        processors: size.processors,
+        tasks: tasks.collect(),
+    }
+}
+
+/// A log in the making.
+struct Maker<'a> {
+    random: &'a mut Random,
+    style: Style,
+    session: Session,
+    events: u32,
+    log: Vec<u8>,
+}
+
+impl Maker<'_> {
+    fn new(random: &mut Random, style: Style, setup: Setup) -> Maker<'_> {
+        let mut log = Vec::new();
+        write_setup(&mut log, &setup).expect("the setups made here are allowed");
+        Maker {
+            random,
+            style,
+            session: Session::new(setup),
+            events: 0,
+            log,
+        }
+    }
+
+    fn add_chosen_event(&mut self) {
+        let event = self.next_event();
+        self.add_event(event);
+    }
+
+    fn add(&mut self, tick: u32, task: u8, action: Action) {
+        self.add_event(Event { tick, task, action });
+    }
+
+    fn add_event(&mut self, event: Event) {
+        write_event(&mut self.log, &event);
+        self.events += 1;
+        // A refused event stays in the log and changes nothing.
+        let _ = self.session.take(event);
+    }
+
+    fn end(mut self) -> Vec<u8> {
+        write_end(&mut self.log, self.events);
+        self.log
+    }
+
+    fn next_event(&mut self) -> Event {
+        if self.random.percent(self.style.wrong) {
+            return self.careless_event();
+        }
+        for _ in 0..4 * self.session.setup().tasks.len() {
+            let event = self.fitting_event();
+            if self.session.check(&event).is_ok() {
+                return event;
+            }
+        }
+        self.next_arrival().unwrap_or_else(|| self.careless_event())
+    }
+
+    /// A tick not below the last one.
+    fn tick(&mut self) -> u32 {
+        let last = self.session.last_tick().max(self.style.start);
+        last.saturating_add(self.random.between(0, self.style.step))
+    }
+
+    fn task(&mut self) -> u8 {
+        self.random.below(self.session.setup().tasks.len()) as u8
+    }
+
+    /// An event that fits the state of some task; it may be refused all the same.
+    fn fitting_event(&mut self) -> Event {
+        let task = self.task();
+        let action = match self.session.state(task) {
+            State::Absent => Action::Arrive,
+            State::Plain if self.session.transactions_used(task) => Action::Finish,
+            State::Plain if self.random.percent(self.style.finish) => Action::Finish,
+            State::Plain => Action::Release(self.transaction()),
+            State::Waiting | State::Executing => Action::Commit,
+        };
+        Event {
+            tick: self.tick(),
+            task,
+            action,
+        }
+    }
+
+    /// The earliest arrival still possible when nothing else is.
+    fn next_arrival(&mut self) -> Option<Event> {
+        let earliest = |task: u8| -> Option<(u32, u8)> {
+            let period = self.session.setup().tasks[usize::from(task)].period;
+            let tick = self.session.last_arrival(task)?.checked_add(period)?;
+            Some((tick.max(self.session.last_tick()), task))
+        };
+        let tasks = 0..self.session.setup().tasks.len() as u8;
+        let absent = tasks.filter(|task| self.session.state(*task) == State::Absent);
+        let (tick, task) = absent.filter_map(earliest).min()?;
+        Some(Event {
+            tick,
+            task,
+            action: Action::Arrive,
+        })
+    }
+
+    /// An event chosen without a look at whether it is accepted.
+    fn careless_event(&mut self) -> Event {
+        let near = match self.random.below(6) {
+            0 => self.arrival_near_the_period(),
+            1 => self.one_release_too_many(),
+            _ => None,
+        };
+        near.unwrap_or_else(|| self.any_event())
+    }
+
+    fn any_event(&mut self) -> Event {
+        let last = self.session.last_tick();
+        let tick = match self.random.below(20) {
+            0 => 0,
+            1 | 2 => last.saturating_sub(1),
+            3 => last.saturating_sub(self.random.between(0, 100)),
+            _ => self.tick(),
+        };
+        let task = match self.random.below(10) {
+            0 => self.session.setup().tasks.len() as u8,
+            1 => self.random.below(256) as u8,
+            _ => self.task(),
+        };
+        let action = match self.random.below(5) {
+            0 => Action::Arrive,
+            1 => Action::Commit,
+            2 => Action::Finish,
+            _ => Action::Release(self.transaction()),
+        };
+        Event { tick, task, action }
+    }
+
+    /// An arrival exactly one period after the last one, or one tick too soon.
+    fn arrival_near_the_period(&mut self) -> Option<Event> {
+        let task = self.task();
+        let period = self.session.setup().tasks[usize::from(task)].period;
+        let due = self.session.last_arrival(task)?.checked_add(period)?;
+        let tick = due - self.random.between(0, 1);
+        Some(Event {
+            tick,
+            task,
+            action: Action::Arrive,
+        })
+    }
+
+    /// A release by a job that has used its transactions, if there is one.
+    fn one_release_too_many(&mut self) -> Option<Event> {
+        let plain = |task: &u8| self.session.state(*task) == State::Plain;
+        let tasks = 0..self.session.setup().tasks.len() as u8;
+        let mut used = tasks
+            .filter(plain)
+            .filter(|task| self.session.transactions_used(*task));
+        let task = used.next()?;
+        let action = Action::Release(self.transaction());
+        Some(Event {
+            tick: self.tick(),
+            task,
+            action,
+        })
+    }
+
+    fn transaction(&mut self) -> Transaction {
+        if self.random.percent(self.style.write_all) {
+            let writes = self.style.objects.iter().copied().collect();
+            return Transaction {
+                reads: self.some_objects(0, self.style.most_reads),
+                writes,
+            };
+        }
+        Transaction {
+            reads: self.some_objects(0, self.style.most_reads),
+            writes: self.some_objects(self.style.least_writes, self.style.most_writes),
+        }
+    }
+
+    fn some_objects(&mut self, least: usize, most: usize) -> BTreeSet<u8> {
+        let count = least + self.random.below(most - least + 1);
+        (0..count)
+            .map(|_| self.random.pick(&self.style.objects))
+            .collect()
+    }
+}

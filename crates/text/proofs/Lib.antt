@@ -1,0 +1,3 @@
+-- The theorems about the text, and the laws that the writers share.
+pub mod Decimal
+pub mod Examples

@@ -1,12 +1,12 @@
 -- A number's text is its fewest digits: by the number of digits, the last of which stands after those of a tenth of the number. So a number below 10 ^ k has at most k.
 use Prim.Native.Nat.{ℕ, zero, suc, _+_, _-_, _*_, _/_, _%_, _^_, _≤_, _<_}
-use mathlib.Core.Path.{_≡_, refl, sym, ap₂}
+use mathlib.Core.Path.{_≡_, refl, sym, ap₂, _∙_}
 use mathlib.Core.Bool.{Bool, true, false}
 use mathlib.Core.List.{List, [], _∷_, _++_}
 use native.Mathlib.Nat.{pow-succ', one-le-pow}
 use native.Mathlib.Omega.{arith}
 use lib.Dec.{ltb}
-use lib.ListN.{length, length-append}
+use lib.ListN.{length, take, length-append}
 use borrow.Author.Tests.{ltb-true, ltb-false, lt-ltb}
 use Rattle.io.specs.Digits.{glyph, digits, Fewest}
 use Rattle.text.specs.Decimal.{decimalWithin, decimal}
@@ -47,6 +47,10 @@ within (suc fuel) n (suc (suc k)) false l e f =
 pub decimal-fewest : DecimalFewest
 unfolding decimal
 decimal-fewest n k f = within (n + 1) n k (ltb n 10) (omega arith) refl f
+
+-- what the digits' writer leaves is the number's text
+pub spelled : (n k : ℕ) (out : List ℕ) → Fewest 10 1 n k → take k out ≡ digits 10 k n → take k out ≡ decimal n
+spelled n k out f e = e ∙ sym (decimal-fewest n k f)
 
 -- ---- how many there are
 

@@ -1,8 +1,10 @@
-// Document 01's worked cases, each refusal from 1 to 13, and how near the sum a retry count comes.
+// Document 01's worked cases, each refusal from 1 to 28, how near the sum a retry count comes, and each kind of record there and back.
 //
 // The whole session and the first item under 'Easy to get wrong' are printed as 01 has them; with each refusal it is seen that the session stays.
+mod back;
 mod near;
 mod print;
+mod records;
 mod same;
 
 use rules::Event;
@@ -129,7 +131,7 @@ fn refused(s: Session, e: Event) {
     let answer = session::step(s, e);
     print::answer_lines(e, answer);
     let after = answer.session;
-    print::same_line(same::same_session(s, after));
+    print::same(same::same_session(s, after));
 }
 
 // The refusals 1 to 4, and those of 4 for each event.
@@ -193,4 +195,10 @@ fn main() {
     bad_setups(a, b);
     near::both_ends();
     near::three_tasks();
+    records::records();
+    records::logs();
+    records::full_log();
+    back::no_room();
+    back::bad_setups();
+    back::each_kind();
 }

@@ -1,76 +1,39 @@
-// The lines of document 01, on standard output.
+// What was answered, on standard output: the lines of document 01 as the crate text writes them, and what the log's functions say.
 use libc::STDOUT_FILENO;
-use rules::Admission;
-use rules::Admissions;
+use log::Found;
+use log::Step;
+use log::Wrote;
 use rules::Answer;
 use rules::Event;
-use rules::Kind;
 use rules::Said;
 use rules::Setup;
 use rules::Summed;
+use text::Put;
 
-fn text(bytes: &[u8]) {
+pub(crate) fn text(bytes: &[u8]) {
     io::write_all(STDOUT_FILENO, bytes);
 }
 
-fn number(n: u64) {
+// A space and a number.
+pub(crate) fn then(n: u64) {
+    text(b" ");
     io::print_decimal(STDOUT_FILENO, n);
 }
 
-// A space and a number.
-fn then(n: u64) {
-    text(b" ");
-    number(n);
+// The lines that were put at the start of a buffer.
+fn show(lines: &[u8], put: Put) {
+    let Put::Next(end) = put else {
+        return;
+    };
+    if end <= lines.len() {
+        text(&lines[..end]);
+    }
 }
 
 pub(crate) fn setup_line(u: Setup) {
-    text(b"setup");
-    then(u.m as u64);
-    then(u.n as u64);
-    text(b"\n");
-}
-
-fn kind_word(kind: Kind) {
-    match kind {
-        Kind::Arrive => text(b" arrive"),
-        Kind::Release => text(b" release"),
-        Kind::Commit => text(b" commit"),
-        Kind::Finish => text(b" finish"),
-    }
-}
-
-pub(crate) fn said_words(said: Said) {
-    match said {
-        Said::Ok => text(b" ok"),
-        Said::Run => text(b" run"),
-        Said::Wait { object, contested } => {
-            text(b" wait");
-            then(object as u64);
-            then(contested as u64);
-        }
-        Said::No(k) => {
-            text(b" no");
-            then(k as u64);
-        }
-    }
-}
-
-fn admission_line(tick: u32, a: Admission) {
-    number(tick as u64);
-    text(b" admit");
-    then(a.task as u64);
-    then(a.retries as u64);
-    text(b"\n");
-}
-
-fn admission_lines(tick: u32, admitted: Admissions) {
-    let count = admitted.count as usize;
-    for k in 0..16 {
-        if k < count {
-            let a = admitted.list[k];
-            admission_line(tick, a);
-        }
-    }
+    let mut lines = [0u8; 1024];
+    let put = text::setup_line(&mut lines, 0, u.m, u.n);
+    show(&lines, put);
 }
 
 // The line of an event, and those of its admissions.
@@ -78,36 +41,25 @@ pub(crate) fn answer_lines(e: Event, answer: Answer) {
     let kind = e.kind;
     let said = answer.said;
     let admitted = answer.admitted;
-    number(e.tick as u64);
-    kind_word(kind);
-    then(e.task as u64);
-    said_words(said);
-    text(b"\n");
-    admission_lines(e.tick, admitted);
+    let mut lines = [0u8; 1024];
+    let put = text::answer_lines(&mut lines, 0, e.tick, kind, e.task, said, admitted);
+    show(&lines, put);
 }
 
 pub(crate) fn end_line(accepted: u32, refused: u32) {
-    text(b"end");
-    then(accepted as u64);
-    then(refused as u64);
-    text(b"\n");
+    let mut lines = [0u8; 1024];
+    let put = text::end_line(&mut lines, 0, accepted, refused);
+    show(&lines, put);
 }
 
 // The line of a setup that is refused.
 pub(crate) fn bad_line(said: Said) {
-    if let Said::No(k) = said {
-        text(b"bad");
-        then(k as u64);
-        text(b"\n");
-    }
-}
-
-pub(crate) fn same_line(same: bool) {
-    if same {
-        text(b"same\n");
-    } else {
-        text(b"changed\n");
-    }
+    let Said::No(k) = said else {
+        return;
+    };
+    let mut lines = [0u8; 1024];
+    let put = text::bad_line(&mut lines, 0, k);
+    show(&lines, put);
 }
 
 pub(crate) fn sum_line(answer: Summed) {
@@ -115,4 +67,62 @@ pub(crate) fn sum_line(answer: Summed) {
     then(answer.number as u64);
     then(answer.sum);
     text(b"\n");
+}
+
+pub(crate) fn found(found: Found) {
+    match found {
+        Found::Record { kind, start, next } => {
+            text(b"record");
+            then(kind as u64);
+            then(start as u64);
+            then(next as u64);
+        }
+        Found::No(number) => {
+            text(b"no");
+            then(number as u64);
+        }
+    }
+    text(b"\n");
+}
+
+pub(crate) fn step(step: Step) {
+    match step {
+        Step::Setup(_) => text(b"setup"),
+        Step::Event {
+            kind: _,
+            start: _,
+            next,
+        } => {
+            text(b"event");
+            then(next.events as u64);
+        }
+        Step::End(_) => text(b"end"),
+        Step::No(number) => {
+            text(b"no");
+            then(number as u64);
+        }
+    }
+    text(b"\n");
+}
+
+pub(crate) fn wrote(wrote: Wrote) {
+    match wrote {
+        Wrote::Next(at) => {
+            text(b"next");
+            then(at as u64);
+        }
+        Wrote::No(number) => {
+            text(b"no");
+            then(number as u64);
+        }
+    }
+    text(b"\n");
+}
+
+pub(crate) fn same(same: bool) {
+    if same {
+        text(b"same\n");
+    } else {
+        text(b"changed\n");
+    }
 }

@@ -1,7 +1,5 @@
-// The log by its smallest bytes: each refusal from 20 to 28, each place of a record in a log, and each kind there and back.
-mod back;
-mod print;
-
+// The log by its smallest bytes: each refusal from 20 to 27, and each place of a record in a log.
+use crate::print;
 use log::Cursor;
 
 // The number of the record at a place.
@@ -19,7 +17,7 @@ fn whole(bytes: &[u8]) {
 }
 
 // One record, tried in order: 27, 20, 21, 20, 22, 23, 10 to 13.
-fn records() {
+pub(crate) fn records() {
     read(b"", 0);
     read(b"\x04\x00\x06\x00\x00\x00\x00\x00", 8);
     read(b"\x04\x00\x06\x00\x00\x00\x00\x00", 18446744073709551615);
@@ -58,7 +56,7 @@ fn records() {
 }
 
 // Whole logs: 27, 24, 24, 25, 26, and two good ones.
-fn logs() {
+pub(crate) fn logs() {
     whole(b"");
     whole(b"\x0a\x00\x01\x00\x01\x01\x01\x00\x01\x00\x00\x00\x01\x00");
     whole(b"\x04\x00\x06\x00\x00\x00\x00\x00");
@@ -80,7 +78,7 @@ fn logs() {
 }
 
 // An event after the 4,294,967,295th, which no test could reach by reading.
-fn full_log() {
+pub(crate) fn full_log() {
     let full = Cursor {
         at: 0,
         started: true,
@@ -93,13 +91,4 @@ fn full_log() {
         events: 4294967294,
     };
     print::step(log::next_step(b"\x05\x00\x02\x00\x00\x00\x00\x00\x00", room));
-}
-
-fn main() {
-    records();
-    logs();
-    full_log();
-    back::no_room();
-    back::bad_setups();
-    back::each_kind();
 }

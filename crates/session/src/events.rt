@@ -12,13 +12,8 @@ use crate::rows::is_waiting;
 use crate::rows::no_admissions;
 use crate::rows::put_groups;
 use crate::rows::raised_task;
-use crate::rows::rows_of;
 use crate::rows::with_release;
 use crate::scan::scanned;
-use crate::search::blocked;
-use crate::search::clash_of;
-use crate::search::contested;
-use crate::search::room;
 use objects::Groups;
 use rules::Answer;
 use rules::Arrival;
@@ -29,6 +24,11 @@ use rules::Session;
 use rules::State;
 use rules::Task;
 use rules::Wait;
+use search::blocked;
+use search::clash_of;
+use search::contested;
+use search::room;
+use search::rows_of;
 
 // Whether m and n are allowed and the task is below n.
 pub(crate) fn known(m: u8, n: u8, task: u8) -> bool

@@ -86,7 +86,7 @@ is-waiting-requires : tie.Need-is-waiting-requires Inv-loop μ-loop
 is-waiting-requires c κs = search needs
 
 clash-of-requires : tie.Need-clash-of-requires Inv-loop μ-loop
-clash-of-requires c κs = let p = past (tried (c .before .before .before .before .before .before .before)) in omega arith
+clash-of-requires c κs = tt
 
 raised-task-requires : tie.Need-raised-task-requires Inv-loop μ-loop
 raised-task-requires c κs = search needs

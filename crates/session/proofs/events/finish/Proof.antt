@@ -6,7 +6,7 @@ use borrow.Author.Tests.{not-true, not-false}
 use Rattle.rules.specs.Ranking.{byPriority}
 use Rattle.rules.specs.Tasks.{stateAt}
 use Rattle.rules.specs.Room.{room}
-use Rattle.session.proofs.Laws.Seen.{room-seen}
+use Rattle.search.proofs.Laws.Seen.{SeenTasks, seen-rows, room-seen}
 use Rattle.session.proofs.Laws.Numbers.{not-plain, Passed, passed, finish-first, finish-refused, finish-accepted}
 use borrow.Author.Needs.{needs}
 use Rattle.session.proofs.events.finish.Statement.{statement}
@@ -25,11 +25,18 @@ told c = c .before .before .before .before .before .before
 abbrev tried : tie.After-ranks2 → tie.Else1
 tried c = told c .before .before .before
 
+-- the rows are those of the session
+seen : (c : tie.After-rows-of) → let s = c .before .before .before .before .before .before .before .args .t1 in SeenTasks (s .tasks) (s .n) (c .rows-of .result .codes) (c .rows-of .result .ranks)
+seen c =
+    let none = c .before .before .before .before .before in
+    let s = none .before .before .args .t1 in
+    seen-rows (s .tasks) (s .n) (c .rows-of .result) (past none .n-high) (c .rows-of .ensures)
+
 -- the answer to the question for room is the rules'
 room-is : (c : tie.After-room) → let a = tried (c .before) .before .before .args in c .room .result ≡ room byPriority (a .t1) (a .task)
 room-is c =
     let s = tried (c .before) .before .before .args .t1 in
-    c .room .ensures ∙ room-seen s _ _ (c .before .before .before .before .before .rows-of .ensures) _ (past (tried (c .before)) .below)
+    c .room .ensures ∙ room-seen s _ _ (seen (c .before .before .before .before .before)) _ (past (tried (c .before)) .below)
 
 first-three-requires : tie.Need-first-three-requires
 first-three-requires c κs = search needs
@@ -66,10 +73,10 @@ returns-2 c =
     (rw (not-plain (stateAt (a .t1) (a .task)) (c .before .match .keys2))) (omega arith))
 
 rows-of-requires : tie.Need-rows-of-requires
-rows-of-requires c κs = past (c .before .before .before .before) .n-high
+rows-of-requires c κs = tt
 
 room-requires : tie.Need-room-requires
-room-requires c κs = let p = past (tried c) in omega arith
+room-requires c κs = tt
 
 refuse-requires-3 : tie.Need-refuse-requires-3
 refuse-requires-3 c κs = search needs

@@ -1,2 +1,2 @@
 -- What the private functions compute. The public ones go by the definitions of rules.
-pub mod Seen
+pub mod Events

@@ -26,7 +26,7 @@ use Rattle.rules.proofs.Laws.Rows.{groups-same, groups-other, Agree, clash-is, 
 use Rattle.search.specs.Rows.{executingIn, setsIn}
 use Rattle.search.specs.Searches.{blockedIn, contestedIn}
 use Rattle.search.proofs.Laws.Seen.{executing-seen}
-use Rattle.session.specs.Seen.{Releasable}
+use Rattle.session.specs.Events.{Releasable}
 use Rattle.session.proofs.Laws.Given.{Sizes}
 
 -- ---- the contested objects as four words

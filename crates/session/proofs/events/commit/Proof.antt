@@ -27,7 +27,7 @@ abbrev μ-loop : tie.MeasureT-loop
 past : (c : tie.Else1 Inv-loop μ-loop) → let a = c .before .before .args in Passed (a .t1) (a .tick) (a .task)
 past c =
     let a = c .before .before .args in
-    passed (a .t1) (a .tick) (a .task) (c .before .first-three .result) (c .before .first-three .ensures) (c .if1 .left)
+    passed (a .t1) (a .tick) (a .task) 0 (sym (c .before .first-three .ensures) ∙ c .if1 .left)
 
 -- where the number is none of the first three, from the head of the loop
 abbrev tried : tie.At-loop Inv-loop μ-loop → tie.Else1 Inv-loop μ-loop

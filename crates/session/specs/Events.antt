@@ -1,23 +1,17 @@
--- What the private functions of the events go by: the numbers that every event tries first, and a release that no number refuses.
+-- What the private functions of the events go by: a session of which only the numbers or the tasks are handed on, and a release that no number refuses.
 use Prim.Native.Nat.{ℕ, _≤_, _<_}
 use mathlib.Core.Path.{_≡_}
-use mathlib.Core.List.{List}
-use mathlib.Core.Bool.{cond, _&&_}
-use lib.Dec.{leb, ltb}
+use mathlib.Core.List.{List, []}
 use lib.ListN.{getD}
 use Rattle.rules.specs.declared.State.the-variants.{Plain}
+use Rattle.rules.specs.declared.Task.{Task}
 use Rattle.rules.specs.declared.Session.{Session}
-use Rattle.rules.specs.Tasks.{allowed, taskAt, stateAt}
+use Rattle.rules.specs.Tasks.{taskAt, stateAt}
 use Rattle.search.specs.Rows.{code}
 
--- ---- the numbers that every event tries first
-
--- 1 to 3 in this order, and 0 where none is given
-abbrev pub firstThree : ℕ → ℕ → ℕ → ℕ → ℕ → ℕ → ℕ
-firstThree m n last accepted tick i =
-    cond (allowed 16 m && allowed 64 n && ltb i n) (cond (ltb tick last) 2 (cond (leb 1000000 accepted) 3 0)) 1
-
--- ---- a release that no number refuses
+-- a session with these numbers and tasks, and no sets: what refuses an event goes by no more
+abbrev pub numbered : ℕ → ℕ → ℕ → ℕ → List Task → Session
+numbered m n tick accepted tasks = record { m = m; n = n; tick = tick; accepted = accepted; tasks = tasks; reads = []; writes = [] }
 
 -- the codes are those of the session, m and n are allowed, and task i is plain, below n, and has a release left
 pub record Releasable (s : Session) (codes : List ℕ) (i : ℕ) : Type 0 where

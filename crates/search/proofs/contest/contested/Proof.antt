@@ -1,4 +1,4 @@
--- `search::clash::contested` meets its contract. The invariant of the loop over tasks: each word has the objects of its group on which task i clashes with
+-- `search::contest::contested` meets its contract. The invariant of the loop over tasks: each word has the objects of its group on which task i clashes with
 -- an executing task passed. That of the loop over groups: the words of the groups passed have the present task's objects too. The measures are what is left
 -- of the tasks and of the four groups. Past the row nobody executes, and a task past it clashes with none. Assumes nothing.
 use Prim.Native.Nat.{ℕ, _+_, _*_, _≤_, _<_, _-_, min, zero-le}
@@ -23,8 +23,8 @@ use Rattle.search.specs.Rows.{executingIn, setsIn, groupIn}
 use Rattle.search.specs.Searches.{contestedIn}
 use Rattle.search.proofs.Laws.Past.{executing-held, executing-none, told-past, told-inside, past-agrees-on}
 use Rattle.search.proofs.Laws.Loops.{filled-more}
-use Rattle.search.proofs.clash.contested.Statement.{statement}
-use Rattle.search.proofs.clash.contested.Tie as tie
+use Rattle.search.proofs.contest.contested.Statement.{statement}
+use Rattle.search.proofs.contest.contested.Tie as tie
 
 -- the objects of one group on which its two transactions clash
 abbrev wordIn : Group → ℕ

@@ -4,7 +4,7 @@ use Prim.Native.Nat.{ℕ, zero, suc, _+_, _*_, _≤_, _<_, min}
 use mathlib.Core.Path.{_≡_, refl, sym, ap, ap₂, _∙_}
 use mathlib.Core.Logic.{_⊎_, inl, inr}
 use mathlib.Core.List.{List}
-use mathlib.Core.Bool.{Bool, true, false, not, _&&_, _||_, or-false, and-false}
+use mathlib.Core.Bool.{Bool, true, false, not, _&&_, or-false, and-false}
 use native.Mathlib.Numerals.{add-one}
 use native.Mathlib.Omega.{arith}
 use lib.Dec.{eqb, ltb}
@@ -12,10 +12,10 @@ use borrow.Author.Tests.{ltb-true, ltb-false, not-true, not-false}
 use lib.ListN.{length, getD, set, length-set, List·getD-eq-default}
 use lib.Seq.{set-out}
 use Rattle.objects.specs.Below.{any, count, one}
-use Rattle.objects.specs.Objects.{Sets, clash, clashOn, has}
+use Rattle.objects.specs.Objects.{Sets, clash, clashOn}
 use Rattle.objects.proofs.Laws.Below.{below-or-from, any-more, any-none, count-more}
 use Rattle.objects.proofs.Laws.Sets.{has-none}
-use Rattle.objects.proofs.Laws.Clash.{empty-agrees, clash-sym}
+use Rattle.objects.proofs.Laws.Clash.{empty-agrees}
 use Rattle.rules.specs.Scan.{foremost}
 use Rattle.search.specs.Rows.{filled, setsIn, executingIn}
 

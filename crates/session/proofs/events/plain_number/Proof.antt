@@ -1,11 +1,9 @@
 -- `session::events::plain_number` meets its contract: each test that fails gives its number. Of whatever tasks the rows are, a code of 1 says that the task is plain,
 -- and the rows tell room as the rules have it. Assumes nothing.
-use Prim.Native.Nat.{ℕ, _<_}
-use mathlib.Core.Path.{_≡_, refl, sym, ap, _∙_}
+use mathlib.Core.Path.{_≡_, sym, _∙_}
 use mathlib.Core.List.{List, []}
 use mathlib.Core.Bool.{true}
 use native.Mathlib.Omega.{arith}
-use lib.Dec.{eqb}
 use lib.ListN.{getD}
 use borrow.Author.Needs.{needs}
 use borrow.Author.Tests.{eq-eqb, ne-eqb, not-true, not-false}
@@ -14,9 +12,7 @@ use Rattle.rules.specs.declared.Session.{Session}
 use Rattle.rules.specs.Ranking.{byPriority}
 use Rattle.rules.specs.Tasks.{isPlain, stateAt}
 use Rattle.rules.specs.Room.{room}
-use Rattle.search.specs.declared.Rows.{Rows}
 use Rattle.search.specs.Rows.{rowsOf}
-use Rattle.search.specs.Searches.{roomIn}
 use Rattle.search.proofs.Laws.Seen.{SeenTasks, seen-rows, plain-seen, room-seen}
 use Rattle.session.specs.Events.{numbered}
 use Rattle.session.proofs.Laws.Numbers.{Passed, passed, finish-tried, finish-rest}

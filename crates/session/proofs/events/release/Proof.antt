@@ -1,5 +1,5 @@
 -- `session::events::release` meets its contract: the answer is the definition's, at the number that `plain_number` gives and at the releases left. Assumes nothing.
-use mathlib.Core.Path.{_≡_, refl, sym, _∙_}
+use mathlib.Core.Path.{_≡_, sym, _∙_}
 use native.Mathlib.Omega.{arith}
 use borrow.Author.Needs.{needs}
 use Rattle.rules.specs.Ranking.{byPriority}

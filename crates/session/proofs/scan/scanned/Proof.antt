@@ -4,7 +4,6 @@ use Prim.Native.Nat.{_-_, _<_}
 use mathlib.Core.Logic.{⊎-elim}
 use native.Mathlib.Nat.{sub-zero}
 use native.Mathlib.Omega.{arith}
-use borrow.Author.Needs.{needs}
 use Rattle.search.proofs.Laws.Seen.{seen-rows}
 use Rattle.session.proofs.Laws.Turns.{Before, Turn, at-first, next-small, rank-small, place-left, passed, admitted-next, ends, spent}
 use Rattle.session.proofs.scan.scanned.Statement.{statement}

@@ -1,11 +1,9 @@
--- The laws that the functions of this crate rest on: Given is what a function is told of what it is given; Searches, Seen and Turns carry the scan; Numbers,
--- Placed and Raised the events; Start and Total a setup and the sum.
+-- The laws that the functions of this crate rest on: Given is what a function is told of what it is given; Turns carries the scan; Numbers, Placed and Raised the events;
+-- Start and Total a setup and the sum.
 pub mod Given
 pub mod Numbers
 pub mod Start
 pub mod Total
-pub mod Searches
-pub mod Seen
 pub mod Turns
 pub mod Placed
 pub mod Raised

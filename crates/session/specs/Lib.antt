@@ -1,3 +1,3 @@
--- What the private functions compute. The public ones go by the definitions of rules.
-pub mod Seen
+-- What the private functions compute, and demand 3 of what the public ones return. The public ones go by the definitions of rules.
+pub mod Events
 pub mod Demand3

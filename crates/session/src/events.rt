@@ -1,24 +1,19 @@
 // The four events. Each tries its numbers in order, and the first that is given is the answer; else the session moves.
 ghost use mathlib.Core.Path.{_≡_};
-ghost use mathlib.Core.Bool.{true, _&&_};
-ghost use lib.Dec.{ltb};
-ghost use Prim.Native.Nat.{_≤_, _<_};
+ghost use mathlib.Core.List.{List, []};
+ghost use Rattle.rules.specs.declared.Task.{Task};
 ghost use Rattle.rules.specs.Ranking.{byPriority};
-ghost use Rattle.rules.specs.Tasks.{allowed};
-ghost use Rattle.rules.specs.Events.{early, refused, arrive, releaseAccepted, release, commit, finish, step};
-ghost use Rattle.session.specs.Seen.{firstThree, Releasable};
+ghost use Rattle.rules.specs.Tasks.{known};
+ghost use Rattle.rules.specs.Events.{trying, finishNumber, early, refused, arrive, releaseAccepted, release, commit, finish, step};
+ghost use Rattle.search.specs.Rows.{rowsOf};
+ghost use Rattle.session.specs.Events.{numbered, Releasable};
 use crate::rows::in_state;
 use crate::rows::is_waiting;
 use crate::rows::no_admissions;
 use crate::rows::put_groups;
 use crate::rows::raised_task;
-use crate::rows::rows_of;
 use crate::rows::with_release;
 use crate::scan::scanned;
-use crate::search::blocked;
-use crate::search::clash_of;
-use crate::search::contested;
-use crate::search::room;
 use objects::Groups;
 use rules::Answer;
 use rules::Arrival;
@@ -29,10 +24,16 @@ use rules::Session;
 use rules::State;
 use rules::Task;
 use rules::Wait;
+use search::Rows;
+use search::blocked;
+use search::clash_of;
+use search::contested;
+use search::room;
+use search::rows_of;
 
 // Whether m and n are allowed and the task is below n.
 pub(crate) fn known(m: u8, n: u8, task: u8) -> bool
-    ensures { λ yes. ⌜ yes ≡ (allowed 16 m && allowed 64 n && ltb task n) ⌝ }
+    ensures { λ yes. ⌜ yes ≡ known (numbered m n 0 0 []) task ⌝ }
 {
     if m == 0 {
         return false;
@@ -51,7 +52,7 @@ pub(crate) fn known(m: u8, n: u8, task: u8) -> bool
 
 // The numbers that every event tries first, 1 to 3.
 fn first_three(m: u8, n: u8, last: u32, accepted: u32, tick: u32, task: u8) -> u8
-    ensures { λ number. ⌜ number ≡ firstThree m n last accepted tick task ⌝ }
+    ensures { λ number. ⌜ number ≡ trying (numbered m n last accepted []) tick task 0 ⌝ }
 {
     if !known(m, n, task) {
         return 1;
@@ -61,6 +62,25 @@ fn first_three(m: u8, n: u8, last: u32, accepted: u32, tick: u32, task: u8) -> u
     }
     if 1000000 <= accepted {
         return 3;
+    }
+    0
+}
+
+// The number that a release and a finish are both tried for: 1 to 3, 4 where the task is not plain, 6 where it is not on a processor. It is that of a finish, whatever tasks
+// the rows are of.
+fn plain_number(m: u8, n: u8, last: u32, accepted: u32, rows: Rows, tick: u32, task: u8) -> u8
+    ensures { λ number. ⌜ ((tasks : List Task) → rows ≡ rowsOf tasks n → number ≡ finishNumber byPriority (numbered m n last accepted tasks) tick task) ⌝ }
+{
+    let number = first_three(m, n, last, accepted, tick, task);
+    if number != 0 {
+        return number;
+    }
+    let i = task as usize;
+    if rows.codes[i] != 1 {
+        return 4;
+    }
+    if !room(&rows.codes, &rows.ranks, n, m, i) {
+        return 6;
     }
     0
 }
@@ -163,27 +183,19 @@ fn released(
 pub fn release(s: Session, tick: u32, task: u8, reads: Groups, writes: Groups) -> Answer
     ensures { λ answer. ⌜ answer ≡ release byPriority s tick task reads writes ⌝ }
 {
-    let number = first_three(s.m, s.n, s.tick, s.accepted, tick, task);
+    let tasks = s.tasks;
+    let rows = rows_of(tasks, s.n);
+    let number = plain_number(s.m, s.n, s.tick, s.accepted, rows, tick, task);
     if number != 0 {
         return refuse(s, number);
     }
     let i = task as usize;
     let t = s.tasks[i];
-    let state = t.state;
-    let State::Plain = state else {
-        return refuse(s, 4);
-    };
-    let tasks = s.tasks;
-    let rows = rows_of(tasks, s.n);
-    let codes = rows.codes;
-    let ranks = rows.ranks;
-    if !room(&codes, &ranks, s.n, s.m, i) {
-        return refuse(s, 6);
-    }
     let terms = t.terms;
     if terms.transactions <= t.releases {
         return refuse(s, 7);
     }
+    let codes = rows.codes;
     released(s, codes, tick, i, reads, writes)
 }
 
@@ -223,23 +235,14 @@ pub fn commit(mut s: Session, tick: u32, task: u8) -> Answer
 pub fn finish(mut s: Session, tick: u32, task: u8) -> Answer
     ensures { λ answer. ⌜ answer ≡ finish byPriority s tick task ⌝ }
 {
-    let number = first_three(s.m, s.n, s.tick, s.accepted, tick, task);
+    let tasks = s.tasks;
+    let rows = rows_of(tasks, s.n);
+    let number = plain_number(s.m, s.n, s.tick, s.accepted, rows, tick, task);
     if number != 0 {
         return refuse(s, number);
     }
     let i = task as usize;
     let t = s.tasks[i];
-    let state = t.state;
-    let State::Plain = state else {
-        return refuse(s, 4);
-    };
-    let tasks = s.tasks;
-    let rows = rows_of(tasks, s.n);
-    let codes = rows.codes;
-    let ranks = rows.ranks;
-    if !room(&codes, &ranks, s.n, s.m, i) {
-        return refuse(s, 6);
-    }
     let terms = t.terms;
     let arrival = t.arrival;
     s.tick = tick;

@@ -1,10 +1,9 @@
 // The manager: a session goes in by value and comes back in the answer, and every answer is the one that the rules give.
 //
-// Read in this order: start (a setup), then step (the four events), then scan, search and rows below them.
+// Read in this order: start (a setup), then step (the four events), then scan and rows below them. What they ask of the tasks is the crate search's.
 mod events;
 mod rows;
 mod scan;
-mod search;
 mod start;
 mod total;
 

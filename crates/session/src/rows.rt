@@ -1,39 +1,14 @@
-// What the searches see of a session's tasks, and the small pieces that the events are made of.
+// The small pieces that the events are made of.
 ghost use mathlib.Core.Path.{_≡_};
-ghost use Prim.Native.Nat.{_≤_, _<_, min, _+_};
-ghost use lib.ListN.{length};
-ghost use Rattle.rules.specs.Ranking.{byPriority};
-ghost use Rattle.rules.specs.Tasks.{isWaiting, retriesOf, inState, withGroups, noTask};
+ghost use Prim.Native.Nat.{_<_, min, _+_};
+ghost use Rattle.rules.specs.Tasks.{isWaiting, retriesOf, inState, withGroups};
 ghost use Rattle.rules.specs.Events.{raisedTask, released};
 ghost use Rattle.rules.specs.Scan.{none};
-ghost use Rattle.session.specs.Seen.{code, SeenTasks};
 use rules::Admission;
 use rules::Admissions;
 use rules::State;
 use rules::Task;
 use rules::Wait;
-
-// A task's rank: smaller is higher.
-pub(crate) fn rank_of(t: Task, i: usize) -> u32
-    requires { ⌜ i < 64 ⌝ }
-    ensures { λ rank. ⌜ rank ≡ byPriority t i ⌝ }
-{
-    let terms = t.terms;
-    let priority = terms.priority as u32;
-    (65535 - priority) * 64 + i as u32
-}
-
-// A number for each state.
-pub(crate) fn code_of(state: State) -> u8
-    ensures { λ number. ⌜ number ≡ code state ⌝ }
-{
-    match state {
-        State::Absent => 0,
-        State::Plain => 1,
-        State::Waiting(_) => 2,
-        State::Executing => 3,
-    }
-}
 
 // Whether the state is waiting.
 pub(crate) fn is_waiting(state: State) -> bool
@@ -124,31 +99,6 @@ pub(crate) fn no_admissions() -> Admissions
             task: 0,
             retries: 0,
         }; 16],
-    }
-}
-
-// The rows of the codes and ranks of a session's tasks.
-pub(crate) struct Rows {
-    pub codes: [u8; 64],
-    pub ranks: [u32; 64],
-}
-
-pub(crate) fn rows_of(tasks: [Task; 64], n: u8) -> Rows
-    requires { ⌜ n ≤ 64 ⌝ }
-    ensures { λ rows. ⌜ SeenTasks tasks n (rows .codes) (rows .ranks) ⌝ }
-{
-    let mut codes = [0u8; 64];
-    let mut ranks = [0u32; 64];
-    let end = n as usize;
-    for j in 0..end {
-        let t = tasks[j];
-        let state = t.state;
-        codes[j] = code_of(state);
-        ranks[j] = rank_of(t, j);
-    }
-    Rows {
-        codes: codes,
-        ranks: ranks,
     }
 }
 

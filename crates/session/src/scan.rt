@@ -6,14 +6,14 @@ ghost use Rattle.rules.specs.Events.{scanning};
 use crate::rows::in_state;
 use crate::rows::no_admissions;
 use crate::rows::retries_of;
-use crate::rows::rows_of;
-use crate::search::admissible;
-use crate::search::next;
 use rules::Admission;
 use rules::Answer;
 use rules::Said;
 use rules::Session;
 use rules::State;
+use search::admissible;
+use search::next;
+use search::rows_of;
 
 // The answer that says this, with the admissions of a scan of the session and the session after it.
 pub(crate) fn scanned(mut s: Session, said: Said) -> Answer

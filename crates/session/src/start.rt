@@ -1,6 +1,5 @@
 // A setup, and the session that it starts.
 ghost use mathlib.Core.Path.{_≡_};
-ghost use Rattle.rules.specs.Tasks.{noTask};
 ghost use Rattle.rules.specs.Setup.{termsNumber, setupNumber, sameTerms, sameSetup, quiet, start};
 use rules::Arrival;
 use rules::Said;

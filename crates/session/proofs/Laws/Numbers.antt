@@ -1,13 +1,13 @@
--- The numbers that every event tries first, and what an event's answer is by its number: the refusal where a number is given, and the accepted answer where
--- none is.
+-- The numbers that every event tries first, those that a release and a finish try alike, and what an event's answer is by its number: the refusal where a number is
+-- given, and the accepted answer where none is.
 use Prim.Native.Nat.{ℕ, _≤_, _<_}
 use mathlib.Core.Path.{_≡_, refl, sym, _∙_}
 use mathlib.Core.Logic.{_≢_, ⊎-elim}
 use mathlib.Core.List.{List, [], _∷_}
-use mathlib.Core.Bool.{Bool, true, false, cond, _&&_, and-false}
+use mathlib.Core.Bool.{Bool, true, false, cond, _&&_, and-false, false≢true}
 use lib.Dec.{eqb, leb, ltb}
 use native.Mathlib.Omega.{arith}
-use borrow.Author.Tests.{ltb-true, ltb-false, leb-false, le-leb, lt-leb, ne-eqb}
+use borrow.Author.Tests.{ltb-true, le-ltb, lt-ltb, le-leb, lt-leb, ne-eqb}
 use types.Run.{OneOf}
 use denote.Enum.Declared.{tagOf}
 use Rattle.objects.proofs.Laws.Below.{and-left, and-right, and-both}
@@ -21,8 +21,8 @@ use Rattle.rules.specs.Tasks.{isAbsent, isPlain, isExecuting, allowed, known, t
 use Rattle.rules.specs.Room.{room}
 use Rattle.rules.specs.Events.{trying, early, arriveNumber, releaseNumber, commitNumber, finishNumber, refused, still, scanning, arrived, arrive, releaseAccepted, release, committed, commit, finished, finish}
 use Rattle.rules.proofs.State.{the-type}
-use Rattle.rules.proofs.Laws.Numbers.{must, must-not, allowed-bounds}
-use Rattle.session.specs.Seen.{firstThree}
+use Rattle.session.specs.Events.{numbered}
+use Rattle.rules.proofs.Laws.Numbers.{must, allowed-bounds, timely}
 
 -- ---- a number that is allowed
 
@@ -59,7 +59,7 @@ not-executing Executing k = ⊎-elim (λ e. absurd (omega arith)) (λ l. ⊎-eli
 
 -- the number that a session's event is first tried for
 abbrev pub firstNumber : Session → ℕ → ℕ → ℕ
-firstNumber s tick i = firstThree (s .m) (s .n) (s .tick) (s .accepted) tick i
+firstNumber s tick i = trying s tick i 0
 
 -- the number of the rest counts where none of the first three is given
 pub trying-first : (s : Session) (tick i rest : ℕ) → trying s tick i rest ≡ cond (eqb (firstNumber s tick i) 0) rest (firstNumber s tick i)
@@ -110,20 +110,80 @@ pub record Passed (s : Session) (at i : ℕ) : Type 0 where
   pub tick : s .tick ≤ at
   pub accepted : s .accepted < 1000000
 
-pub passed : (s : Session) (tick i k : ℕ) → k ≡ firstNumber s tick i → k ≡ 0 → Passed s tick i
-passed s tick i k e z =
-    let p = must (known s i) (cond (ltb tick (s .tick)) 2 (cond (leb 1000000 (s .accepted)) 3 0)) 1 (omega arith) (sym e ∙ z) in
-    let q = must-not (ltb tick (s .tick)) (cond (leb 1000000 (s .accepted)) 3 0) 2 (omega arith) (p .1) in
-    let r = must-not (leb 1000000 (s .accepted)) 0 3 (omega arith) (q .1) in
-    let b = bounds s i (p .0) in
+pub passed : (s : Session) (tick i rest : ℕ) → trying s tick i rest ≡ 0 → Passed s tick i
+passed s tick i rest e =
+    let t = timely s tick i rest e in
+    let b = bounds s i (must (known s i) (cond (ltb tick (s .tick)) 2 (cond (leb 1000000 (s .accepted)) 3 rest)) 1 (omega arith) e .0) in
     record {
       m-low = b .m-low;
       m-high = b .m-high;
       n-high = b .n-high;
       below = b .below;
-      tick = ltb-false tick (s .tick) (q .0);
-      accepted = leb-false 1000000 (s .accepted) (r .0);
+      tick = t .tick;
+      accepted = omega (arith, t .accepted);
     }
+
+-- ---- the numbers that a release and a finish try alike
+
+-- what is known where none of them is given
+pub record Plainly (s : Session) (at i : ℕ) : Type 0 where
+  pub passed-all : Passed s at i
+  pub plain : stateAt s i ≡ Plain
+
+plain-is : (state : State) → isPlain state ≡ true → state ≡ Plain
+plain-is Absent e = absurd (false≢true e)
+plain-is Plain e = refl
+plain-is (Waiting w) e = absurd (false≢true e)
+plain-is Executing e = absurd (false≢true e)
+
+-- the numbers after the first three
+abbrev finishRest : Ranking → Session → ℕ → ℕ
+finishRest rank s i = cond (isPlain (stateAt s i)) (cond (room rank s i) 0 6) 4
+
+module _ (rank : Ranking) (s : Session) (tick i : ℕ) where
+  finish-is : finishNumber rank s tick i ≡ trying s tick i (finishRest rank s i)
+  unfolding finishNumber
+  finish-is = refl
+
+  pub finish-tried : (first : ℕ) → first ≡ firstNumber s tick i → first ≢ 0 → finishNumber rank s tick i ≡ first
+  finish-tried first e h = finish-is ∙ trying-given s tick i (finishRest rank s i) first e h
+
+  pub finish-rest : (first k : ℕ) → first ≡ firstNumber s tick i → first ≡ 0 → finishRest rank s i ≡ k → finishNumber rank s tick i ≡ k
+  finish-rest first k e z r = finish-is ∙ trying-rest s tick i (finishRest rank s i) first e z ∙ r
+
+  -- the sets are no part of it
+  pub number-whole : {k : ℕ} → k ≡ finishNumber rank (numbered (s .m) (s .n) (s .tick) (s .accepted) (s .tasks)) tick i → k ≡ finishNumber rank s tick i
+  unfolding finishNumber room
+  number-whole e = e
+
+  pub plainly : finishNumber rank s tick i ≡ 0 → Plainly s tick i
+  plainly e =
+      let none = sym finish-is ∙ e in
+      record {
+        passed-all = passed s tick i (finishRest rank s i) none;
+        plain =
+            plain-is (stateAt s i)
+            (must (isPlain (stateAt s i)) (cond (room rank s i) 0 6) 4 (omega arith) (timely s tick i (finishRest rank s i) none .rest-zero) .0);
+      }
+
+  -- a release tries one number more
+  release-is : releaseNumber rank s tick i
+      ≡ cond (eqb (finishNumber rank s tick i) 0) (cond (ltb (taskAt s i .releases) (taskAt s i .terms .transactions)) 0 7) (finishNumber rank s tick i)
+  unfolding releaseNumber finishNumber
+  release-is =
+      go (known s i) (ltb tick (s .tick)) (leb 1000000 (s .accepted)) (isPlain (stateAt s i)) (room rank s i)
+      (cond (ltb (taskAt s i .releases) (taskAt s i .terms .transactions)) 0 7)
+    where
+      alike : Bool → Bool → Bool → Bool → Bool → ℕ → ℕ
+      alike a b c d e rest = cond a (cond b 2 (cond c 3 (cond d (cond e rest 6) 4))) 1
+
+      go : (a b c d e : Bool) (rest : ℕ) → alike a b c d e rest ≡ cond (eqb (alike a b c d e 0) 0) rest (alike a b c d e 0)
+      go true true c d e rest = refl
+      go true false true d e rest = refl
+      go true false false true true rest = refl
+      go true false false true false rest = refl
+      go true false false false e rest = refl
+      go false b c d e rest = refl
 
 -- ---- an event's answer by its number
 
@@ -141,15 +201,8 @@ answer-accepted number s accepts e = rw e
 abbrev pub arriveRest : Session → ℕ → ℕ → ℕ
 arriveRest s tick i = cond (isAbsent (stateAt s i)) (cond (early (taskAt s i .arrival) (taskAt s i .terms .period) tick) 5 0) 4
 
-abbrev pub releaseRest : Ranking → Session → ℕ → ℕ
-releaseRest rank s i =
-    cond (isPlain (stateAt s i)) (cond (room rank s i) (cond (ltb (taskAt s i .releases) (taskAt s i .terms .transactions)) 0 7) 6) 4
-
 abbrev pub commitRest : Session → ℕ → ℕ
 commitRest s i = cond (isExecuting (stateAt s i)) 0 4
-
-abbrev pub finishRest : Ranking → Session → ℕ → ℕ
-finishRest rank s i = cond (isPlain (stateAt s i)) (cond (room rank s i) 0 6) 4
 
 -- Of each event: `-first` where one of the first three is given, and past those `-refused` at the number that is given and `-accepted` where none is.
 -- first is the number that the first three give.
@@ -191,39 +244,32 @@ module _ (s : Session) (tick i first : ℕ) (e : first ≡ firstNumber s tick i)
         answer-accepted (commitNumber s tick i) s (scanning rank Ok (committed s tick i))
         (trying-rest s tick i (commitRest s i) first e z ∙ r)
 
-    pub finish-first : first ≢ 0 → finish rank s tick i ≡ refused s first
-    unfolding finish finishNumber
-    finish-first h =
-        answer-refused (finishNumber rank s tick i) s (scanning rank Ok (withTask (stamped s tick) i (finished (taskAt s i)))) first
-        (trying-given s tick i (finishRest rank s i) first e h) h
+-- Of a finish and a release, by the number that they are tried for alike.
+module _ (rank : Ranking) (s : Session) (tick i number : ℕ) (e : number ≡ finishNumber rank s tick i) where
+  pub finish-refused : number ≢ 0 → finish rank s tick i ≡ refused s number
+  unfolding finish
+  finish-refused h =
+      answer-refused (finishNumber rank s tick i) s (scanning rank Ok (withTask (stamped s tick) i (finished (taskAt s i)))) number (sym e) h
 
-    pub finish-refused : (k : ℕ) → first ≡ 0 → finishRest rank s i ≡ k → k ≢ 0 → finish rank s tick i ≡ refused s k
-    unfolding finish finishNumber
-    finish-refused k z r =
-        answer-refused (finishNumber rank s tick i) s (scanning rank Ok (withTask (stamped s tick) i (finished (taskAt s i)))) k
-        (trying-rest s tick i (finishRest rank s i) first e z ∙ r)
+  pub finish-accepted : number ≡ 0 → finish rank s tick i ≡ scanning rank Ok (withTask (stamped s tick) i (finished (taskAt s i)))
+  unfolding finish
+  finish-accepted z = answer-accepted (finishNumber rank s tick i) s (scanning rank Ok (withTask (stamped s tick) i (finished (taskAt s i)))) (sym e ∙ z)
 
-    pub finish-accepted : first ≡ 0 → finishRest rank s i ≡ 0 → finish rank s tick i ≡ scanning rank Ok (withTask (stamped s tick) i (finished (taskAt s i)))
-    unfolding finish finishNumber
-    finish-accepted z r =
-        answer-accepted (finishNumber rank s tick i) s (scanning rank Ok (withTask (stamped s tick) i (finished (taskAt s i))))
-        (trying-rest s tick i (finishRest rank s i) first e z ∙ r)
+  module _ (reads writes : List ℕ) where
+    pub release-refused : number ≢ 0 → release rank s tick i reads writes ≡ refused s number
+    unfolding release
+    release-refused h =
+        answer-refused (releaseNumber rank s tick i) s (releaseAccepted rank s tick i reads writes) number (release-is rank s tick i ∙ rw (← e, ne-eqb number 0 h)) h
 
-    module _ (reads writes : List ℕ) where
-      pub release-first : first ≢ 0 → release rank s tick i reads writes ≡ refused s first
-      unfolding release releaseNumber
-      release-first h =
-          answer-refused (releaseNumber rank s tick i) s (releaseAccepted rank s tick i reads writes) first
-          (trying-given s tick i (releaseRest rank s i) first e h) h
+    pub release-used : number ≡ 0 → taskAt s i .terms .transactions ≤ taskAt s i .releases → release rank s tick i reads writes ≡ refused s 7
+    unfolding release
+    release-used z l =
+        answer-refused (releaseNumber rank s tick i) s (releaseAccepted rank s tick i reads writes) 7
+        (release-is rank s tick i ∙ rw (← e, z, le-ltb (taskAt s i .releases) (taskAt s i .terms .transactions) l)) (omega arith)
 
-      pub release-refused : (k : ℕ) → first ≡ 0 → releaseRest rank s i ≡ k → k ≢ 0 → release rank s tick i reads writes ≡ refused s k
-      unfolding release releaseNumber
-      release-refused k z r =
-          answer-refused (releaseNumber rank s tick i) s (releaseAccepted rank s tick i reads writes) k
-          (trying-rest s tick i (releaseRest rank s i) first e z ∙ r)
-
-      pub release-accepted : first ≡ 0 → releaseRest rank s i ≡ 0 → release rank s tick i reads writes ≡ releaseAccepted rank s tick i reads writes
-      unfolding release releaseNumber
-      release-accepted z r =
-          answer-accepted (releaseNumber rank s tick i) s (releaseAccepted rank s tick i reads writes)
-          (trying-rest s tick i (releaseRest rank s i) first e z ∙ r)
+    pub release-accepted : number ≡ 0 → taskAt s i .releases < taskAt s i .terms .transactions
+        → release rank s tick i reads writes ≡ releaseAccepted rank s tick i reads writes
+    unfolding release
+    release-accepted z l =
+        answer-accepted (releaseNumber rank s tick i) s (releaseAccepted rank s tick i reads writes)
+        (release-is rank s tick i ∙ rw (← e, z, lt-ltb (taskAt s i .releases) (taskAt s i .terms .transactions) l))

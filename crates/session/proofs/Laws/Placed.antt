@@ -23,8 +23,10 @@ use Rattle.rules.specs.Tasks.{isExecuting, taskAt, stateAt, executing, setsAt, 
 use Rattle.rules.specs.Contest.{blocked, contestedOn, lowestContested, contestedCount}
 use Rattle.rules.specs.Events.{still, scanning, released, releasedInto, releaseAccepted}
 use Rattle.rules.proofs.Laws.Rows.{groups-same, groups-other, Agree, clash-is, on-agree, clash-agree}
-use Rattle.session.specs.Seen.{setsIn, executingIn, blockedIn, contestedIn, Releasable}
-use Rattle.session.proofs.Laws.Seen.{executing-seen}
+use Rattle.search.specs.Rows.{executingIn, setsIn}
+use Rattle.search.specs.Searches.{blockedIn, contestedIn}
+use Rattle.search.proofs.Laws.Seen.{executing-seen}
+use Rattle.session.specs.Events.{Releasable}
 use Rattle.session.proofs.Laws.Given.{Sizes}
 
 -- ---- the contested objects as four words

@@ -25,8 +25,8 @@ use Rattle.rules.proofs.Laws.Foremost.{Found, next-found}
 use Rattle.rules.proofs.Laws.Keeping.{kept-refl, admitted-counts}
 use Rattle.rules.proofs.Laws.Room.{room-fewer}
 use Rattle.rules.proofs.Laws.Looks.{admissible-room, admit-kept}
-use Rattle.session.specs.Seen.{SeenTasks, nextIn, admissibleIn}
-use Rattle.session.proofs.Laws.Seen.{next-seen, admissible-seen, seen-executing}
+use Rattle.search.specs.Searches.{nextIn, admissibleIn}
+use Rattle.search.proofs.Laws.Seen.{SeenTasks, next-seen, admissible-seen, seen-executing}
 
 -- ---- one look
 

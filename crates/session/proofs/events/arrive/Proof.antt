@@ -9,7 +9,7 @@ use Rattle.session.proofs.events.arrive.Tie as tie
 
 -- what is known past the first three
 past : (c : tie.Else1) → let a = c .before .before .args in Passed (a .t1) (a .tick) (a .task)
-past c = let a = c .before .before .args in passed (a .t1) (a .tick) (a .task) (c .before .first-three .result) (c .before .first-three .ensures) (c .if1 .left)
+past c = let a = c .before .before .args in passed (a .t1) (a .tick) (a .task) 0 (sym (c .before .first-three .ensures) ∙ c .if1 .left)
 
 first-three-requires : tie.Need-first-three-requires
 first-three-requires c κs = search needs

@@ -27,7 +27,7 @@ abbrev μ-loop : tie.MeasureT-loop
 past : (c : tie.Else1 Inv-loop μ-loop) → let a = c .before .before .args in Passed (a .t1) (a .tick) (a .task)
 past c =
     let a = c .before .before .args in
-    passed (a .t1) (a .tick) (a .task) (c .before .first-three .result) (c .before .first-three .ensures) (c .if1 .left)
+    passed (a .t1) (a .tick) (a .task) 0 (sym (c .before .first-three .ensures) ∙ c .if1 .left)
 
 -- where the number is none of the first three, from the head of the loop
 abbrev tried : tie.At-loop Inv-loop μ-loop → tie.Else1 Inv-loop μ-loop
@@ -86,7 +86,7 @@ is-waiting-requires : tie.Need-is-waiting-requires Inv-loop μ-loop
 is-waiting-requires c κs = search needs
 
 clash-of-requires : tie.Need-clash-of-requires Inv-loop μ-loop
-clash-of-requires c κs = let p = past (tried (c .before .before .before .before .before .before .before)) in omega arith
+clash-of-requires c κs = tt
 
 raised-task-requires : tie.Need-raised-task-requires Inv-loop μ-loop
 raised-task-requires c κs = search needs

@@ -1,15 +1,16 @@
 -- `session::events::first_three` meets its contract: each test that fails gives its number. Assumes nothing.
 use mathlib.Core.Path.{_≡_, sym, _∙_}
-use mathlib.Core.Bool.{true, _&&_}
-use lib.Dec.{ltb}
+use mathlib.Core.Bool.{true}
+use mathlib.Core.List.{[]}
 use borrow.Author.Needs.{needs}
 use borrow.Author.Tests.{not-true, not-false, lt-ltb, le-ltb, le-leb, lt-leb}
-use Rattle.rules.specs.Tasks.{allowed}
+use Rattle.rules.specs.Tasks.{known}
+use Rattle.session.specs.Events.{numbered}
 use Rattle.session.proofs.events.first_three.Statement.{statement}
 use Rattle.session.proofs.events.first_three.Tie as tie
 
 -- the task is known where its test passed
-is-known : (c : tie.Else1) → let a = c .before .before .args in (allowed 16 (a .m) && allowed 64 (a .n) && ltb (a .task) (a .n)) ≡ true
+is-known : (c : tie.Else1) → let a = c .before .before .args in known (numbered (a .m) (a .n) (a .last) (a .accepted) []) (a .task) ≡ true
 is-known c = sym (c .before .known .ensures) ∙ not-false (c .before .known .result) (c .if1 .left)
 
 known-requires : tie.Need-known-requires

@@ -1,147 +1,99 @@
--- `session::events::release` meets its contract: each answer is the definition's, at the number that the tests on the way give. The rows tell room as the
--- rules have it. Assumes nothing.
+-- `session::events::release` meets its contract: the answer is the definition's, at the number that `plain_number` gives and at the releases left. Assumes nothing.
 use mathlib.Core.Path.{_≡_, sym, _∙_}
 use native.Mathlib.Omega.{arith}
 use borrow.Author.Needs.{needs}
-use borrow.Author.Tests.{le-ltb, lt-ltb, not-true, not-false}
 use Rattle.rules.specs.Ranking.{byPriority}
-use Rattle.rules.specs.Tasks.{stateAt}
-use Rattle.rules.specs.Room.{room}
-use Rattle.session.proofs.Laws.Seen.{room-seen}
-use Rattle.session.proofs.Laws.Numbers.{not-plain, Passed, passed, release-first, release-refused, release-accepted}
+use Rattle.rules.specs.Events.{finishNumber}
+use Rattle.search.proofs.Laws.Seen.{seen-rows}
+use Rattle.session.proofs.Laws.Numbers.{Plainly, plainly, number-whole, release-refused, release-used, release-accepted}
 use Rattle.session.proofs.events.release.Statement.{statement}
 use Rattle.session.proofs.events.release.Tie as tie
 
--- what is known past the first three
-past : (c : tie.Else1) → let a = c .before .before .args in Passed (a .t1) (a .tick) (a .task)
-past c =
-    let a = c .before .before .args in
-    passed (a .t1) (a .tick) (a .task) (c .before .first-three .result) (c .before .first-three .ensures) (c .if1 .left)
+-- the number is the rules'
+number-is : (c : tie.After-plain-number) → let a = c .before .before .before .args in c .plain-number .result ≡ finishNumber byPriority (a .t1) (a .tick) (a .task)
+number-is c =
+    let a = c .before .before .before .args in
+    number-whole byPriority (a .t1) (a .tick) (a .task) (c .plain-number .ensures (a .t1 .tasks) (c .before .rows-of .ensures))
 
--- where the task is known to be plain, and where the number is none of the first three, from where the rows are asked for room
-abbrev told : tie.After-ranks2 → tie.After-enum-told
-told c = c .before .before .before .before .before .before
+-- what is known where none is given
+past : (c : tie.Else1) → let a = c .before .before .before .before .args in Plainly (a .t1) (a .tick) (a .task)
+past c = let a = c .before .before .before .before .args in plainly byPriority (a .t1) (a .tick) (a .task) (sym (number-is (c .before)) ∙ c .if1 .left)
 
-abbrev tried : tie.After-ranks2 → tie.Else1
-tried c = told c .before .before .before
+-- where none is given, from where the releases left are known
+abbrev tried-all : tie.After-struct-known2 → tie.Else1
+tried-all c = c .before .before .before .before
 
--- the answer to the question for room is the rules'
-room-is : (c : tie.After-room) → let a = tried (c .before) .before .before .args in c .room .result ≡ room byPriority (a .t1) (a .task)
-room-is c =
-    let s = tried (c .before) .before .before .args .t1 in
-    c .room .ensures ∙ room-seen s _ _ (c .before .before .before .before .before .rows-of .ensures) _ (past (tried (c .before)) .below)
+rows-of-requires : tie.Need-rows-of-requires
+rows-of-requires c κs = search needs
 
-first-three-requires : tie.Need-first-three-requires
-first-three-requires c κs = search needs
+plain-number-requires : tie.Need-plain-number-requires
+plain-number-requires c κs = search needs
 
 refuse-requires : tie.Need-refuse-requires
 refuse-requires c κs = search needs
 
 returns : tie.Need-returns
 returns c =
-    let first = c .before .before in
-    let a = first .before .args in
+    let tried = c .before .before in
+    let a = tried .before .before .before .args in
     c .refuse .ensures
-    ∙ sym (release-first (a .t1) (a .tick) (a .task) (first .first-three .result) (first .first-three .ensures) byPriority (a .reads) (a .writes)
-    (c .before .if1 .taken))
+    ∙ sym (release-refused byPriority (a .t1) (a .tick) (a .task) (tried .plain-number .result) (number-is tried) (a .reads) (a .writes) (c .before .if1 .taken))
 
 mul-t : tie.Need-mul-t
 mul-t c = search needs
 
 element-copy-out-t : tie.Need-element-copy-out-t
-element-copy-out-t c = let p = past c in omega arith
-
-enum-told : tie.Need-enum-told
-enum-told c = search needs
+element-copy-out-t c = let p = past c .passed-all in omega arith
 
 refuse-requires-2 : tie.Need-refuse-requires-2
 refuse-requires-2 c κs = search needs
 
 returns-2 : tie.Need-returns-2
 returns-2 c =
-    let none = c .before .before .before in
-    let first = none .before in
-    let a = first .before .args in
+    let none = tried-all (c .before .before) in
+    let tried = none .before in
+    let a = tried .before .before .before .args in
     c .refuse2 .ensures
-    ∙ sym (release-refused (a .t1) (a .tick) (a .task) (first .first-three .result) (first .first-three .ensures) byPriority (a .reads) (a .writes) 4
-    (none .if1 .left) (rw (not-plain (stateAt (a .t1) (a .task)) (c .before .match .keys2))) (omega arith))
-
-rows-of-requires : tie.Need-rows-of-requires
-rows-of-requires c κs = past (c .before .before .before .before) .n-high
-
-room-requires : tie.Need-room-requires
-room-requires c κs = let p = past (tried c) in omega arith
-
-refuse-requires-3 : tie.Need-refuse-requires-3
-refuse-requires-3 c κs = search needs
-
-returns-3 : tie.Need-returns-3
-returns-3 c =
-    let asked = c .before .before in
-    let none = tried (asked .before) in
-    let first = none .before in
-    let a = first .before .args in
-    c .refuse3 .ensures
-    ∙ sym (release-refused (a .t1) (a .tick) (a .task) (first .first-three .result) (first .first-three .ensures) byPriority (a .reads) (a .writes) 6
-    (none .if1 .left) (simp (told (asked .before) .enum-told .given .1, sym (room-is asked) ∙ not-true _ (c .before .if2 .taken))) (omega arith))
-
-refuse-requires-4 : tie.Need-refuse-requires-4
-refuse-requires-4 c κs = search needs
-
-returns-4 : tie.Need-returns-4
-returns-4 c =
-    let asked = c .before .before .before .before .before .before in
-    let none = tried (asked .before) in
-    let first = none .before in
-    let a = first .before .args in
-    c .refuse4 .ensures
-    ∙ sym (release-refused (a .t1) (a .tick) (a .task) (first .first-three .result) (first .first-three .ensures) byPriority (a .reads) (a .writes) 7
-    (none .if1 .left)
-    (simp (told (asked .before) .enum-told .given .1, sym (room-is asked) ∙ not-false _ (c .before .before .before .before .before .if2 .left), le-ltb _ _ (c .before .if3 .taken)))
-    (omega arith))
+    ∙ sym (release-used byPriority (a .t1) (a .tick) (a .task) (tried .plain-number .result) (number-is tried) (a .reads) (a .writes) (none .if1 .left)
+    (c .before .if2 .taken))
 
 released-requires : tie.Need-released-requires
 released-requires c κs =
-    let asked = c .before .before .before .before .before in
-    let p = past (tried (asked .before)) in
+    let none = tried-all (c .before .before) in
+    let rows = none .before .before in
+    let s = rows .before .before .args .t1 in
+    let p = past none .passed-all in
     record {
       m-high = p .m-high;
       n-high = p .n-high;
       below = p .below;
-      code-is = asked .before .before .before .before .before .rows-of .ensures .code-is;
-      plain = told (asked .before) .enum-told .given .1;
-      left = c .if3 .left;
+      code-is = seen-rows (s .tasks) (s .n) (rows .rows-of .result) (p .n-high) (rows .rows-of .ensures) .code-is;
+      plain = past none .plain;
+      left = c .before .if2 .left;
       accepted = p .accepted;
     }
 
-returns-5 : tie.Need-returns-5
-returns-5 c =
-    let asked = c .before .before .before .before .before .before in
-    let none = tried (asked .before) in
-    let first = none .before in
-    let a = first .before .args in
+returns-3 : tie.Need-returns-3
+returns-3 c =
+    let left = c .before .before in
+    let none = tried-all (left .before) in
+    let tried = none .before in
+    let a = tried .before .before .before .args in
     c .released .ensures
-    ∙ sym (release-accepted (a .t1) (a .tick) (a .task) (first .first-three .result) (first .first-three .ensures) byPriority (a .reads) (a .writes)
-    (none .if1 .left)
-    (simp (told (asked .before) .enum-told .given .1, sym (room-is asked) ∙ not-false _ (c .before .before .before .before .before .if2 .left), lt-ltb _ _ (c .before .if3 .left))))
+    ∙ sym (release-accepted byPriority (a .t1) (a .tick) (a .task) (tried .plain-number .result) (number-is tried) (a .reads) (a .writes) (none .if1 .left)
+    (left .if2 .left))
 
 pub release-spec : {M : Type 1} → statement M
 release-spec =
     tie.close
     (tie.spec
-    first-three-requires
+    rows-of-requires
+    plain-number-requires
     refuse-requires
     returns
     mul-t
     element-copy-out-t
-    enum-told
     refuse-requires-2
     returns-2
-    rows-of-requires
-    room-requires
-    refuse-requires-3
-    returns-3
-    refuse-requires-4
-    returns-4
     released-requires
-    returns-5)
+    returns-3)

@@ -4,7 +4,7 @@ use Prim.Native.Nat.{_-_, _<_}
 use mathlib.Core.Logic.{⊎-elim}
 use native.Mathlib.Nat.{sub-zero}
 use native.Mathlib.Omega.{arith}
-use borrow.Author.Needs.{needs}
+use Rattle.search.proofs.Laws.Seen.{seen-rows}
 use Rattle.session.proofs.Laws.Turns.{Before, Turn, at-first, next-small, rank-small, place-left, passed, admitted-next, ends, spent}
 use Rattle.session.proofs.scan.scanned.Statement.{statement}
 use Rattle.session.proofs.scan.scanned.Tie as tie
@@ -56,7 +56,7 @@ place c =
 -- ---- the needs
 
 rows-of-requires : tie.Need-rows-of-requires Inv-loop μ-loop
-rows-of-requires c κs = search needs
+rows-of-requires c κs = tt
 
 no-admissions-requires : tie.Need-no-admissions-requires Inv-loop μ-loop
 no-admissions-requires c κs = tt
@@ -64,12 +64,13 @@ no-admissions-requires c κs = tt
 loop-holds : tie.Need-loop-holds Inv-loop μ-loop
 loop-holds c =
     let begin = c .before .before .before .before .before in
+    let s = begin .args .t1 in
     let rows = c .before .before .before .rows-of in
     rw (c .no-admissions .ensures, sub-zero)
-    (at-first (begin .args .t1) (rows .result .codes) (rows .result .ranks) (begin .pre .0) (rows .ensures))
+    (at-first s (rows .result .codes) (rows .result .ranks) (begin .pre .0) (seen-rows (s .tasks) (s .n) (rows .result) (begin .pre .0) (rows .ensures)))
 
 next-requires : tie.Need-next-requires Inv-loop μ-loop
-next-requires c κs = search needs
+next-requires c κs = tt
 
 mul-from : tie.Need-mul-from Inv-loop μ-loop
 mul-from c = omega (arith, small c)
@@ -81,9 +82,7 @@ add-from : tie.Need-add-from Inv-loop μ-loop
 add-from c = omega (arith, rank-small (turn c))
 
 admissible-requires : tie.Need-admissible-requires Inv-loop μ-loop
-admissible-requires c κs =
-    let e = c .before .before .before .before .before in
-    (start (head e) .pre .0, small e)
+admissible-requires c κs = tt
 
 mul-t : tie.Need-mul-t Inv-loop μ-loop
 mul-t c = omega (arith, small (looked-at (c .before)))

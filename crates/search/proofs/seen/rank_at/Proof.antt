@@ -1,0 +1,21 @@
+-- `search::seen::rank_at` meets its contract: past the row there is nothing to read, and the definition reads 0 there. Assumes nothing.
+use lib.ListN.{List·getD-eq-default}
+use mathlib.Core.Path.{sym}
+use borrow.Author.Needs.{needs}
+use Rattle.search.proofs.seen.rank_at.Statement.{statement}
+use Rattle.search.proofs.seen.rank_at.Tie as tie
+
+mul-result : tie.Need-mul-result
+mul-result c = search needs
+
+shared-slice-read-result : tie.Need-shared-slice-read-result
+shared-slice-read-result c = search needs
+
+returns : tie.Need-returns
+returns c = search needs
+
+returns-2 : tie.Need-returns-2
+returns-2 c = sym (List·getD-eq-default (c .before .before .args .ranks .now) 0 (c .if1 .left))
+
+pub rank-at-spec : {M : Type 1} → statement M
+rank-at-spec = tie.close (tie.spec mul-result shared-slice-read-result returns returns-2)

@@ -1,0 +1,24 @@
+-- What the private functions of the events go by: a session of which only the numbers or the tasks are handed on, and a release that no number refuses.
+use Prim.Native.Nat.{ℕ, _≤_, _<_}
+use mathlib.Core.Path.{_≡_}
+use mathlib.Core.List.{List, []}
+use lib.ListN.{getD}
+use Rattle.rules.specs.declared.State.the-variants.{Plain}
+use Rattle.rules.specs.declared.Task.{Task}
+use Rattle.rules.specs.declared.Session.{Session}
+use Rattle.rules.specs.Tasks.{taskAt, stateAt}
+use Rattle.search.specs.Rows.{code}
+
+-- a session with these numbers and tasks, and no sets: what refuses an event goes by no more
+abbrev pub numbered : ℕ → ℕ → ℕ → ℕ → List Task → Session
+numbered m n tick accepted tasks = record { m = m; n = n; tick = tick; accepted = accepted; tasks = tasks; reads = []; writes = [] }
+
+-- the codes are those of the session, m and n are allowed, and task i is plain, below n, and has a release left
+pub record Releasable (s : Session) (codes : List ℕ) (i : ℕ) : Type 0 where
+  pub m-high : s .m ≤ 16
+  pub n-high : s .n ≤ 64
+  pub below : i < s .n
+  pub code-is : (j : ℕ) → j < s .n → getD codes j 0 ≡ code (stateAt s j)
+  pub plain : stateAt s i ≡ Plain
+  pub left : taskAt s i .releases < taskAt s i .terms .transactions
+  pub accepted : s .accepted < 1000000

@@ -1,0 +1,4 @@
+-- The theorems of the lines, and the laws that they share.
+pub mod Laws
+pub mod Whole
+pub mod Windows

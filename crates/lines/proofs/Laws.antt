@@ -4,3 +4,4 @@ pub mod Steps
 pub mod Lines
 pub mod Turns
 pub mod Runs
+pub mod Writing

@@ -3,4 +3,5 @@ pub mod Records
 pub mod Whole
 pub mod Turn
 pub mod Window
+pub mod Replay
 pub mod Windows

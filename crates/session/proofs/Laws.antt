@@ -5,5 +5,6 @@ pub mod Numbers
 pub mod Start
 pub mod Total
 pub mod Turns
+pub mod Parts
 pub mod Placed
 pub mod Raised

@@ -13,7 +13,7 @@ use crate::rows::no_admissions;
 use crate::rows::put_groups;
 use crate::rows::raised_task;
 use crate::rows::with_release;
-use crate::scan::scanned;
+use crate::scan::scan_of;
 use objects::Groups;
 use rules::Answer;
 use rules::Arrival;
@@ -169,7 +169,16 @@ fn released(
             retries: 0,
         };
         s.tasks[i] = with_release(t, State::Waiting(wait));
-        return scanned(s, said);
+        let table = s.tasks;
+        let scan = scan_of(table, &s.reads, &s.writes, n, s.m);
+        let admitted = scan.admitted;
+        let settled = scan.tasks;
+        s.tasks = settled;
+        return Answer {
+            said: said,
+            admitted: admitted,
+            session: s,
+        };
     }
     s.tasks[i] = with_release(t, State::Executing);
     Answer {
@@ -228,7 +237,16 @@ pub fn commit(mut s: Session, tick: u32, task: u8) -> Answer
     s.tasks[i] = in_state(t, State::Plain);
     put_groups(&mut s.reads, i, [0; 4]);
     put_groups(&mut s.writes, i, [0; 4]);
-    scanned(s, Said::Ok)
+    let table = s.tasks;
+    let scan = scan_of(table, &s.reads, &s.writes, s.n, s.m);
+    let admitted = scan.admitted;
+    let settled = scan.tasks;
+    s.tasks = settled;
+    Answer {
+        said: Said::Ok,
+        admitted: admitted,
+        session: s,
+    }
 }
 
 // A plain task on a processor ends its job, and a scan follows.
@@ -253,7 +271,16 @@ pub fn finish(mut s: Session, tick: u32, task: u8) -> Answer
         arrival: arrival,
         releases: 0,
     };
-    scanned(s, Said::Ok)
+    let table = s.tasks;
+    let scan = scan_of(table, &s.reads, &s.writes, s.n, s.m);
+    let admitted = scan.admitted;
+    let settled = scan.tasks;
+    s.tasks = settled;
+    Answer {
+        said: Said::Ok,
+        admitted: admitted,
+        session: s,
+    }
 }
 
 // Any event.

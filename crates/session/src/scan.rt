@@ -1,28 +1,36 @@
 // The scan, which ends a commit, a finish and a release that waits.
 ghost use mathlib.Core.Path.{_≡_};
 ghost use Prim.Native.Nat.{_≤_};
-ghost use Rattle.rules.specs.Ranking.{byPriority};
-ghost use Rattle.rules.specs.Events.{scanning};
+ghost use Rattle.session.specs.Events.{scanIn};
 use crate::rows::in_state;
 use crate::rows::no_admissions;
 use crate::rows::retries_of;
 use rules::Admission;
-use rules::Answer;
-use rules::Said;
-use rules::Session;
+use rules::Admissions;
 use rules::State;
+use search::Tasks;
+use search::Words;
 use search::admissible;
 use search::next;
 use search::rows_of;
 
-// The answer that says this, with the admissions of a scan of the session and the session after it.
-pub(crate) fn scanned(mut s: Session, said: Said) -> Answer
-    requires { ⌜ (s .n ≤ 64) × (s .m ≤ 16) ⌝ }
-    ensures { λ answer. ⌜ answer ≡ scanning byPriority said s ⌝ }
+// What a scan admits, and the tasks after it.
+pub(crate) struct Scan {
+    pub admitted: Admissions,
+    pub tasks: Tasks,
+}
+
+// The scan of a session with these tasks and sets. It changes nothing but tasks, so it is handed no more than it reads: a session by value is three times as much to copy.
+pub(crate) fn scan_of<'a>(
+    mut tasks: Tasks,
+    reads: &'a Words,
+    writes: &'a Words,
+    n: u8,
+    m: u8,
+) -> Scan
+    requires { ⌜ (n ≤ 64) × (m ≤ 16) ⌝ }
+    ensures { λ scan. ⌜ scan ≡ scanIn m n tasks (now (reads .entry)) (now (writes .entry)) ⌝ }
 {
-    let n = s.n;
-    let m = s.m;
-    let tasks = s.tasks;
     let rows = rows_of(tasks, n);
     let ranks = rows.ranks;
     let mut codes = rows.codes;
@@ -34,8 +42,8 @@ pub(crate) fn scanned(mut s: Session, said: Said) -> Answer
             break;
         }
         from = ranks[i] + 1;
-        if admissible(&codes, &ranks, &s.reads, &s.writes, n, m, i) {
-            let t = s.tasks[i];
+        if admissible(&codes, &ranks, reads, writes, n, m, i) {
+            let t = tasks[i];
             let state = t.state;
             let at = admitted.count as usize;
             admitted.list[at] = Admission {
@@ -44,12 +52,11 @@ pub(crate) fn scanned(mut s: Session, said: Said) -> Answer
             };
             admitted.count = admitted.count + 1;
             codes[i] = 3;
-            s.tasks[i] = in_state(t, State::Executing);
+            tasks[i] = in_state(t, State::Executing);
         }
     }
-    Answer {
-        said: said,
+    Scan {
         admitted: admitted,
-        session: s,
+        tasks: tasks,
     }
 }

@@ -51,9 +51,6 @@ look-goes rank k from x i e d b a = look-step rank k from x ∙ rw (e, ne-eqb i 
 
 -- ---- the loop
 
-abbrev answered : Said → Scanned → Answer
-answered said x = record { said = said; admitted = x .admitted; session = x .session }
-
 -- k looks are left, from this rank on, of a scan of s that has come to x. No more are admitted than now execute, which bounds the list.
 pub record Before (s : Session) (ranks : List ℕ) (k : ℕ) (codes : List ℕ) (x : Scanned) (from : ℕ) : Type 0 where
   pub rest : look byPriority k from x ≡ scan byPriority s
@@ -80,15 +77,15 @@ module _ {s : Session} {ranks codes : List ℕ} {k from : ℕ} {x : Scanned} (be
       sym (e ∙ ap (λ (n : ℕ). nextIn codes ranks n from) (sym (before .kept .n)) ∙ next-seen (x .session) codes ranks (before .seen) from)
 
   -- nothing is next
-  pub ends : (said : Said) (i : ℕ) → i ≡ nextIn codes ranks (s .n) from → i ≡ 64 → answered said x ≡ scanning byPriority said s
-  ends said i e h = ap (answered said) (sym (look-ended byPriority k from x (next-now i e ∙ h)) ∙ before .rest)
+  pub ends : (i : ℕ) → i ≡ nextIn codes ranks (s .n) from → i ≡ 64 → x ≡ scan byPriority s
+  ends i e h = sym (look-ended byPriority k from x (next-now i e ∙ h)) ∙ before .rest
 
 -- every look is taken
-pub spent : {s : Session} {ranks codes : List ℕ} {n counter from : ℕ} {x : Scanned} (said : Said) → n ≤ counter → Before s ranks (n - counter) codes x from
-    → answered said x ≡ scanning byPriority said s
-spent {n = n} {counter = counter} {from = from} {x = x} said over before =
+pub spent : {s : Session} {ranks codes : List ℕ} {n counter from : ℕ} {x : Scanned} → n ≤ counter → Before s ranks (n - counter) codes x from
+    → x ≡ scan byPriority s
+spent {n = n} {counter = counter} {from = from} {x = x} over before =
     let none-left : n - counter ≡ 0 = omega arith in
-    ap (answered said) (sym (look-none byPriority from x) ∙ ap (λ (k : ℕ). look byPriority k from x) (sym none-left) ∙ before .rest)
+    sym (look-none byPriority from x) ∙ ap (λ (k : ℕ). look byPriority k from x) (sym none-left) ∙ before .rest
 
 -- a turn, with a task i that is next
 pub record Turn (s : Session) (ranks codes : List ℕ) (n counter from : ℕ) (x : Scanned) (i : ℕ) : Type 0 where

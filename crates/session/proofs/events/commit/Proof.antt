@@ -13,6 +13,7 @@ use Rattle.rules.specs.Ranking.{byPriority}
 use Rattle.rules.specs.Tasks.{stateAt, setsAt, withTasks, withTask, stamped}
 use Rattle.rules.specs.Events.{raised, scanning}
 use Rattle.session.proofs.Laws.Numbers.{not-executing, Passed, passed, commit-first, commit-refused, commit-accepted}
+use Rattle.session.proofs.Laws.Parts.{scanned-is}
 use Rattle.session.proofs.Laws.Raised.{raised-none, raised-turn, committed-is}
 use Rattle.session.proofs.events.commit.Statement.{statement}
 use Rattle.session.proofs.events.commit.Tie as tie
@@ -91,8 +92,8 @@ clash-of-requires c κs = tt
 raised-task-requires : tie.Need-raised-task-requires Inv-loop μ-loop
 raised-task-requires c κs = search needs
 
-mul-t34 : tie.Need-mul-t34 Inv-loop μ-loop
-mul-t34 c = let p = past (tried (c .before .before .before .before .before .before .before .before .before .before)) in omega arith
+mul-t38 : tie.Need-mul-t38 Inv-loop μ-loop
+mul-t38 c = let p = past (tried (c .before .before .before .before .before .before .before .before .before .before)) in omega arith
 
 element-set-from-s : tie.Need-element-set-from-s Inv-loop μ-loop
 element-set-from-s c = let p = past (tried (c .before .before .before .before .before .before .before .before .before .before)) in omega arith
@@ -132,8 +133,8 @@ loop-again c = (turned c, omega arith)
 in-state-requires : tie.Need-in-state-requires Inv-loop μ-loop
 in-state-requires c κs = search needs
 
-mul-t19 : tie.Need-mul-t19 Inv-loop μ-loop
-mul-t19 c = let p = past (tried (c .before .before)) in omega arith
+mul-t23 : tie.Need-mul-t23 Inv-loop μ-loop
+mul-t23 c = let p = past (tried (c .before .before)) in omega arith
 
 element-set-from-s-2 : tie.Need-element-set-from-s-2 Inv-loop μ-loop
 element-set-from-s-2 c = let p = past (tried (c .before .before)) in omega arith
@@ -144,23 +145,24 @@ put-groups-requires c κs = let p = past (tried (c .before .before .before)) in 
 put-groups-requires-2 : tie.Need-put-groups-requires-2 Inv-loop μ-loop
 put-groups-requires-2 c κs = let p = past (tried (c .before .before .before .before .before)) in omega arith
 
-scanned-requires : tie.Need-scanned-requires Inv-loop μ-loop
-scanned-requires c κs =
-    let head = c .before .before .before .before .before .before in
+scan-of-requires : tie.Need-scan-of-requires Inv-loop μ-loop
+scan-of-requires c κs =
+    let head = c .before .before .before .before .before .before .before .before .before .before in
     let p = past (tried head) in
     let same = head .loop .inv .0 in
     omega (arith, ap (λ (s : Session). s .n) same, ap (λ (s : Session). s .m) same)
 
 returns-3 : tie.Need-returns-3 Inv-loop μ-loop
 returns-3 c =
-    let put = c .before in
+    let scanned = c .before .before in
+    let put = scanned .before .before .before .before .before in
     let done = put .before .before .before .before in
     let loop = done .before in
     let head = loop .before in
     let none = tried head in
     let first = none .before in
     let a = first .before .args in
-    c .scanned .ensures
+    scanned-is _ _ (scanned .scan-of .result) (scanned .scan-of .ensures)
     ∙ ap (scanning byPriority Ok)
     (committed-is (a .t1) (a .tick) (a .task) (head .loop .j) (head .loop .s) (done .in-state .result) _ _ (head .loop .inv .0) (omega arith)
     (done .in-state .ensures) (put .before .before .put-groups .ensures) (put .put-groups2 .ensures))
@@ -189,15 +191,15 @@ commit-spec =
     is-waiting-requires
     clash-of-requires
     raised-task-requires
-    mul-t34
+    mul-t38
     element-set-from-s
     add-j
     loop-less
     loop-again
     in-state-requires
-    mul-t19
+    mul-t23
     element-set-from-s-2
     put-groups-requires
     put-groups-requires-2
-    scanned-requires
+    scan-of-requires
     returns-3)

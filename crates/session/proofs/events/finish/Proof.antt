@@ -5,6 +5,7 @@ use borrow.Author.Needs.{needs}
 use Rattle.rules.specs.Ranking.{byPriority}
 use Rattle.rules.specs.Events.{finishNumber}
 use Rattle.session.proofs.Laws.Numbers.{Plainly, plainly, number-whole, finish-refused, finish-accepted}
+use Rattle.session.proofs.Laws.Parts.{scanned-is}
 use Rattle.session.proofs.events.finish.Statement.{statement}
 use Rattle.session.proofs.events.finish.Tie as tie
 
@@ -42,21 +43,22 @@ element-copy-out-t c = let p = past c .passed-all in omega arith
 add-s : tie.Need-add-s
 add-s c = let p = past (c .before .before) .passed-all in omega arith
 
-mul-t18 : tie.Need-mul-t18
-mul-t18 c = search needs
+mul-t22 : tie.Need-mul-t22
+mul-t22 c = search needs
 
 element-set-from-s : tie.Need-element-set-from-s
 element-set-from-s c = let p = past (c .before .before) .passed-all in omega arith
 
-scanned-requires : tie.Need-scanned-requires
-scanned-requires c κs = let p = past (c .before .before) .passed-all in (p .n-high, p .m-high)
+scan-of-requires : tie.Need-scan-of-requires
+scan-of-requires c κs = let p = past (c .before .before .before .before .before .before) .passed-all in (p .n-high, p .m-high)
 
 returns-2 : tie.Need-returns-2
 returns-2 c =
-    let none = c .before .before .before in
+    let scanned = c .before .before in
+    let none = scanned .before .before .before .before .before .before .before in
     let tried = none .before in
     let a = tried .before .before .before .args in
-    c .scanned .ensures
+    scanned-is _ _ (scanned .scan-of .result) (scanned .scan-of .ensures)
     ∙ sym (finish-accepted byPriority (a .t1) (a .tick) (a .task) (tried .plain-number .result) (number-is tried) (none .if1 .left))
 
 pub finish-spec : {M : Type 1} → statement M
@@ -70,7 +72,7 @@ finish-spec =
     mul-t
     element-copy-out-t
     add-s
-    mul-t18
+    mul-t22
     element-set-from-s
-    scanned-requires
+    scan-of-requires
     returns-2)

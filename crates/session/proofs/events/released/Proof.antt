@@ -6,6 +6,7 @@ use native.Mathlib.Omega.{arith}
 use borrow.Author.Needs.{needs}
 use Rattle.rules.specs.Tasks.{taskAt}
 use Rattle.session.proofs.Laws.Given.{sizes, few-transactions}
+use Rattle.session.proofs.Laws.Parts.{scanned-is}
 use Rattle.session.proofs.Laws.Placed.{released-runs, released-waits}
 use Rattle.session.proofs.events.released.Statement.{statement}
 use Rattle.session.proofs.events.released.Tie as tie
@@ -49,35 +50,39 @@ how-many-requires c κs = search needs
 with-release-requires : tie.Need-with-release-requires
 with-release-requires c κs = releases-few (c .before .before .before .before .before .before .before .before)
 
-mul-t34 : tie.Need-mul-t34
-mul-t34 c = search needs
+mul-t38 : tie.Need-mul-t38
+mul-t38 c = search needs
 
 element-set-from-s : tie.Need-element-set-from-s
 element-set-from-s c = search needs
 
-scanned-requires : tie.Need-scanned-requires
-scanned-requires c κs = search needs
+scan-of-requires : tie.Need-scan-of-requires
+scan-of-requires c κs =
+    let start = start-of (c .before .before .before .before .before .before .before .before .before .before .before .before .before) in
+    (start .pre .n-high, start .pre .m-high)
 
 returns : tie.Need-returns
 returns c =
-    let found = c .before .before .before .before in
+    let scanned = c .before .before in
+    let new = scanned .before .before .before .before .before in
+    let found = new .before .before .before in
     let asked = found .before .before .before .before .before .before in
     let put = asked .before .before .before .before .before in
     let start = start-of asked in
     let a = start .args in
-    rw (c .before .with-release .ensures) at (c .scanned .ensures)
+    scanned-is _ _ (scanned .scan-of .result) (rw (new .with-release .ensures) at (scanned .scan-of .ensures))
     ∙ released-waits (a .t1) (a .t2) (a .i) (a .reads) (a .writes) _ _ (sizes (a .t1) _ (start .good .0)) (start .pre)
     (put .before .before .put-groups .ensures) (put .put-groups2 .ensures) (a .tick) (found .contested .result) _ _
     (sym (asked .blocked .ensures) ∙ found .before .before .before .before .before .if1 .taken)
     (found .contested .ensures .1)
-    (c .before .before .before .lowest-object .ensures)
-    (c .before .before .how-many .ensures)
+    (new .before .before .lowest-object .ensures)
+    (new .before .how-many .ensures)
 
 with-release-requires-2 : tie.Need-with-release-requires-2
 with-release-requires-2 c κs = releases-few (c .before)
 
-mul-t14 : tie.Need-mul-t14
-mul-t14 c = search needs
+mul-t18 : tie.Need-mul-t18
+mul-t18 c = search needs
 
 element-set-from-s-2 : tie.Need-element-set-from-s-2
 element-set-from-s-2 c = search needs
@@ -109,12 +114,12 @@ released-spec =
     lowest-object-requires
     how-many-requires
     with-release-requires
-    mul-t34
+    mul-t38
     element-set-from-s
-    scanned-requires
+    scan-of-requires
     returns
     with-release-requires-2
-    mul-t14
+    mul-t18
     element-set-from-s-2
     no-admissions-requires
     returns-2)

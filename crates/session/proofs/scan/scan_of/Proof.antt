@@ -1,38 +1,44 @@
--- The scan in one loop, one look a turn. Its invariant is Before of Turns: what is left to look at gives the whole scan, and the rows are the session's. The
+-- The scan in one loop, one look a turn. Its invariant is Before of Turns: what is left to look at gives the whole scan, and the rows are the tasks'. The
 -- measure is the looks left. A task that is next is below 64, and where it is admissible fewer than m execute, so that its admission has a place in the list.
 use Prim.Native.Nat.{_-_, _<_}
 use mathlib.Core.Logic.{⊎-elim}
+use mathlib.Core.Path.{ap}
 use native.Mathlib.Nat.{sub-zero}
 use native.Mathlib.Omega.{arith}
+use Rattle.rules.specs.Scan.{Scanned}
 use Rattle.search.proofs.Laws.Seen.{seen-rows}
+use Rattle.session.specs.declared.scan.Scan.{Scan}
+use Rattle.session.specs.Events.{tabled}
 use Rattle.session.proofs.Laws.Turns.{Before, Turn, at-first, next-small, rank-small, place-left, passed, admitted-next, ends, spent}
-use Rattle.session.proofs.scan.scanned.Statement.{statement}
-use Rattle.session.proofs.scan.scanned.Tie as tie
+use Rattle.session.proofs.scan.scan_of.Statement.{statement}
+use Rattle.session.proofs.scan.scan_of.Tie as tie
 
 abbrev Inv-loop : tie.InvT-loop
-Inv-loop said s₀ n m ranks codes₀ admitted₀ from₀ counter₀ s codes admitted from counter =
-    Before s₀ ranks (n - counter) codes (record { admitted = admitted; session = s }) from
+Inv-loop reads writes n m tasks₀ ranks codes₀ admitted₀ from₀ counter₀ tasks codes admitted from counter =
+    Before (tabled m n tasks₀ reads writes) ranks (n - counter) codes (record { admitted = admitted; session = tabled m n tasks reads writes }) from
 
 abbrev μ-loop : tie.MeasureT-loop
-μ-loop said s₀ n m ranks codes₀ admitted₀ from₀ counter₀ s codes admitted from counter = n - counter
+μ-loop reads writes n m tasks₀ ranks codes₀ admitted₀ from₀ counter₀ tasks codes admitted from counter = n - counter
 
 -- ---- what is known where a task is next
 
 abbrev start : tie.At-loop Inv-loop μ-loop → tie.Start Inv-loop μ-loop
-start c = c .before .before .before .before .before .before
+start c = c .before .before .before .before .before
 
 module _ (c : tie.Else1 Inv-loop μ-loop) where
   abbrev head : tie.At-loop Inv-loop μ-loop
   head = c .before .before .before .before .before
 
-  turn : Turn
-      (start head .args .t1)
+  turn :
+      let a = start head .args in
+      Turn
+      (tabled (a .m) (a .n) (a .t1) (a .reads .now) (a .writes .now))
       (head .before .before .before .before .rows-of .result .ranks)
       (head .loop .codes)
-      (start head .args .t1 .n)
+      (a .n)
       (head .loop .counter)
       (head .loop .from)
-      (record { admitted = head .loop .admitted; session = head .loop .s })
+      (record { admitted = head .loop .admitted; session = tabled (a .m) (a .n) (head .loop .tasks) (a .reads .now) (a .writes .now) })
       (c .before .next .result)
   turn = record {
     more = c .before .before .before .before .loop-test .taken;
@@ -45,7 +51,7 @@ module _ (c : tie.Else1 Inv-loop μ-loop) where
   small = next-small turn
 
 abbrev looked-at : tie.After-admissible Inv-loop μ-loop → tie.Else1 Inv-loop μ-loop
-looked-at c = c .before .before .before .before .before .before
+looked-at c = c .before .before .before
 
 -- where it is admissible too, the list has a place left
 place : (c : tie.Then2 Inv-loop μ-loop) → head (looked-at (c .before)) .loop .admitted .count < 16
@@ -63,11 +69,12 @@ no-admissions-requires c κs = tt
 
 loop-holds : tie.Need-loop-holds Inv-loop μ-loop
 loop-holds c =
-    let begin = c .before .before .before .before .before in
-    let s = begin .args .t1 in
     let rows = c .before .before .before .rows-of in
+    let begin = c .before .before .before .before in
+    let a = begin .args in
     rw (c .no-admissions .ensures, sub-zero)
-    (at-first s (rows .result .codes) (rows .result .ranks) (begin .pre .0) (seen-rows (s .tasks) (s .n) (rows .result) (begin .pre .0) (rows .ensures)))
+    (at-first (tabled (a .m) (a .n) (a .t1) (a .reads .now) (a .writes .now)) (rows .result .codes) (rows .result .ranks) (begin .pre .0)
+    (seen-rows (a .t1) (a .n) (rows .result) (begin .pre .0) (rows .ensures)))
 
 next-requires : tie.Need-next-requires Inv-loop μ-loop
 next-requires c κs = tt
@@ -87,8 +94,8 @@ admissible-requires c κs = tt
 mul-t : tie.Need-mul-t Inv-loop μ-loop
 mul-t c = omega (arith, small (looked-at (c .before)))
 
-element-copy-out-t : tie.Need-element-copy-out-t Inv-loop μ-loop
-element-copy-out-t c = small (looked-at (c .before))
+array-copy-out-t : tie.Need-array-copy-out-t Inv-loop μ-loop
+array-copy-out-t c = small (looked-at (c .before))
 
 cast-at : tie.Need-cast-at Inv-loop μ-loop
 cast-at c = omega (arith, place (c .before))
@@ -99,8 +106,8 @@ cast-admitted c = omega (arith, small (looked-at (c .before .before)))
 retries-of-requires : tie.Need-retries-of-requires Inv-loop μ-loop
 retries-of-requires c κs = tt
 
-mul-t30 : tie.Need-mul-t30 Inv-loop μ-loop
-mul-t30 c = omega (arith, place (c .before .before))
+mul-t29 : tie.Need-mul-t29 Inv-loop μ-loop
+mul-t29 c = omega (arith, place (c .before .before))
 
 element-set-from-admitted : tie.Need-element-set-from-admitted Inv-loop μ-loop
 element-set-from-admitted c = place (c .before .before)
@@ -114,11 +121,11 @@ array-write-codes c = small (looked-at (c .before .before .before))
 in-state-requires : tie.Need-in-state-requires Inv-loop μ-loop
 in-state-requires c κs = tt
 
-mul-t30-2 : tie.Need-mul-t30-2 Inv-loop μ-loop
-mul-t30-2 c = omega (arith, small (looked-at (c .before .before .before .before)))
+mul-tasks : tie.Need-mul-tasks Inv-loop μ-loop
+mul-tasks c = omega (arith, small (looked-at (c .before .before .before .before)))
 
-element-set-from-s : tie.Need-element-set-from-s Inv-loop μ-loop
-element-set-from-s c = small (looked-at (c .before .before .before .before))
+array-set-from-tasks : tie.Need-array-set-from-tasks Inv-loop μ-loop
+array-set-from-tasks c = small (looked-at (c .before .before .before .before))
 
 add-counter : tie.Need-add-counter Inv-loop μ-loop
 add-counter c = let e = looked-at (c .before) in omega (arith, turn e .more, start (head e) .pre .0)
@@ -135,16 +142,20 @@ loop-again c =
     (λ w. rw (w .1, w .2, w .3) (passed (turn e) (asked .result) (asked .ensures) (w .0 .left)))
     (c .if2 .came)
 
+-- the admissions and the tasks of how far the scan has come
+abbrev parts : Scanned → Scan
+parts x = record { admitted = x .admitted; tasks = x .session .tasks }
+
 returns : tie.Need-returns Inv-loop μ-loop
-returns c = spent (start (c .before) .args .said) (c .loop-test .left) (c .before .loop .inv)
+returns c = ap parts (spent (c .loop-test .left) (c .before .loop .inv))
 
 returns-2 : tie.Need-returns-2 Inv-loop μ-loop
 returns-2 c =
     let loop = c .before .before .before .before .before in
-    ends (loop .loop .inv) (start loop .args .said) (c .before .next .result) (c .before .next .ensures) (c .if1 .taken)
+    ap parts (ends (loop .loop .inv) (c .before .next .result) (c .before .next .ensures) (c .if1 .taken))
 
-pub scanned-spec : {M : Type 1} → statement M
-scanned-spec =
+pub scan-of-spec : {M : Type 1} → statement M
+scan-of-spec =
     tie.close
     (tie.spec
     Inv-loop
@@ -158,17 +169,17 @@ scanned-spec =
     add-from
     admissible-requires
     mul-t
-    element-copy-out-t
+    array-copy-out-t
     cast-at
     cast-admitted
     retries-of-requires
-    mul-t30
+    mul-t29
     element-set-from-admitted
     add-admitted
     array-write-codes
     in-state-requires
-    mul-t30-2
-    element-set-from-s
+    mul-tasks
+    array-set-from-tasks
     add-counter
     loop-less
     loop-again

@@ -83,7 +83,7 @@ fn setup_back() {
     print::wrote(log::write_setup(&mut buf, 1, u));
     print::found(log::read(&buf, 1));
     let back = log::setup_of(log::body(&buf, 1));
-    print::same(session::same_setup(u, back));
+    print::same(setup::same_setup(u, back));
     print::wrote(log::write_setup(&mut again, 1, back));
     print::same(same(&buf, &again));
 }

@@ -79,7 +79,7 @@ fn whole_session() {
         terms_of(20, 80, 1),
         none,
     );
-    let started = session::setup(u);
+    let started = setup::setup(u);
     print::setup_line(u);
     let mut s = started.session;
     s = go(s, event(Kind::Arrive, 0, 0));
@@ -111,7 +111,7 @@ fn deferred_release_scans() {
         terms_of(30, 100, 1),
         terms_of(40, 100, 1),
     );
-    let started = session::setup(u);
+    let started = setup::setup(u);
     print::setup_line(u);
     let mut s = started.session;
     s = go(s, event(Kind::Arrive, 0, 0));
@@ -164,7 +164,7 @@ fn last_refusals(before: Session) {
 
 // A setup that is refused, and an event on the session that stands in its place.
 fn bad_setup(u: Setup) {
-    let started = session::setup(u);
+    let started = setup::setup(u);
     let said = started.said;
     let s = started.session;
     print::bad_line(said);
@@ -188,7 +188,7 @@ fn main() {
     let none = terms_of(0, 0, 0);
     let a = terms_of(10, 100, 1);
     let b = terms_of(20, 50, 1);
-    let started = session::setup(setup_of(1, 2, a, b, none, none));
+    let started = setup::setup(setup_of(1, 2, a, b, none, none));
     let fresh = started.session;
     let s = first_refusals(fresh);
     last_refusals(s);

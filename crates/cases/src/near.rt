@@ -22,7 +22,7 @@ pub(crate) fn both_ends() {
         terms_of(30, 1000, 0),
         idle,
     );
-    let started = session::setup(u);
+    let started = setup::setup(u);
     print::setup_line(u);
     let mut s = started.session;
     s = go(s, event(Kind::Arrive, 0, 1));
@@ -124,7 +124,7 @@ pub(crate) fn three_tasks() {
     u.terms[5] = terms_of(40, 1000, 0);
     u.terms[6] = terms_of(30, 1000, 0);
     u.terms[7] = terms_of(20, 1000, 0);
-    let started = session::setup(u);
+    let started = setup::setup(u);
     print::setup_line(u);
     let fresh = started.session;
     let mut s = jobs_of_the_wait(begin_wait(fresh));

@@ -4,11 +4,11 @@ use mathlib.Core.Path.{_≡_, refl, sym, ap, subst, _∙_}
 use mathlib.Core.Logic.{inl, inr, _≢_}
 use mathlib.Core.List.{List, _∷_}
 use mathlib.Core.Bool.{Bool, true, false, cond, _&&_, false≢true}
-use native.Mathlib.Nat.{lt-of-lt-of-le, le-trans, le-of-eq}
+use native.Mathlib.Nat.{lt-of-lt-of-le, le-trans, le-of-eq, ne-of-gt}
 use native.Mathlib.Omega.{arith}
-use lib.Dec.{eqb, leb, ltb}
+use lib.Dec.{eqb, ltb}
 use lib.ListN.{getD}
-use borrow.Author.Tests.{eq-eqb, le-leb, lt-ltb}
+use borrow.Author.Tests.{eq-eqb, lt-ltb}
 use Rattle.objects.specs.Below.{sum}
 use Rattle.objects.specs.Objects.{Sets, clash}
 use Rattle.objects.proofs.Laws.Below.{not-both, and-both, or-false-left, or-false-right, sum-mono}
@@ -31,7 +31,7 @@ use Rattle.rules.specs.Sum.{share, bound, summed}
 use Rattle.rules.specs.Reachable.{Strict, Stays, Sound}
 use Rattle.rules.specs.History.{Call, heard, noAdmission, commits, waitLength, during, passes, passed}
 use Rattle.rules.specs.Demand3.{Run, begun, called, SameSets, FreshStarts, RunSound, RetriesFit, commitsIn, OnceRunning, HeldBack, RetriesCounted, AdmittedCounted, Bounded, RunningApart, AsTold}
-use Rattle.rules.proofs.Laws.Numbers.{must, must-not, allowed-bounds}
+use Rattle.rules.proofs.Laws.Numbers.{must, must-not, allowed-is, allowed-bounds}
 use Rattle.rules.proofs.Laws.Keeping.{kept-sets}
 use Rattle.rules.proofs.Laws.Listed.{Settled, Each}
 use Rattle.rules.proofs.Contest.{blocked-plain}
@@ -173,11 +173,8 @@ admitted-counted rank strict stays start s calls begins run e k lk =
 sound-known : (rank : Ranking) (s : Session) (i : ℕ) → Sound rank s → i < s .n → known s i ≡ true
 sound-known rank s i p l =
     and-both (allowed 16 (s .m) && allowed 64 (s .n)) (ltb i (s .n))
-    (and-both (allowed 16 (s .m)) (allowed 64 (s .n)) (allowing 16 (s .m) (p .m-low) (p .m-high)) (allowing 64 (s .n) (p .n-low) (p .n-high)))
+    (and-both (allowed 16 (s .m)) (allowed 64 (s .n)) (allowed-is 16 (s .m) (ne-of-gt (p .m-low)) (p .m-high)) (allowed-is 64 (s .n) (ne-of-gt (p .n-low)) (p .n-high)))
     (lt-ltb i (s .n) l)
-  where
-    allowing : (most k : ℕ) → 1 ≤ k → k ≤ most → allowed most k ≡ true
-    allowing most k low high = and-both (leb 1 k) (leb k most) (le-leb 1 k low) (le-leb k most high)
 
 -- a period that a setup allows is no 0
 positive : (t : Terms) → termsNumber t ≡ 0 → 0 < t .period

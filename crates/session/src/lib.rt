@@ -1,10 +1,10 @@
 // The manager: a session goes in by value and comes back in the answer, and every answer is the one that the rules give.
 //
-// Read in this order: start (a setup), then step (the four events), then scan and rows below them. What they ask of the tasks is the crate search's.
+// Read in this order: step (the four events), then scan and rows below them, and the sum. The session to begin with is of the crate setup; what the events ask of the
+// tasks is of the crate search.
 mod events;
 mod rows;
 mod scan;
-mod start;
 mod total;
 
 pub use events::arrive;
@@ -12,7 +12,4 @@ pub use events::commit;
 pub use events::finish;
 pub use events::release;
 pub use events::step;
-pub use start::same_setup;
-pub use start::setup;
-pub use start::setup_number;
 pub use total::sum;

@@ -1,12 +1,12 @@
--- A number that is chosen by tests, where every test that fails gives its own: it is 0 only where each test passed.
+-- A number that is chosen by tests, where every test that fails gives its own: it is 0 only where each test passed. And numbers that are allowed.
 use Prim.Native.Nat.{ℕ, _+_, _≤_, _<_}
 use mathlib.Core.Path.{_≡_, refl}
 use mathlib.Core.Logic.{_≢_}
-use mathlib.Core.Bool.{Bool, true, false, cond, _&&_}
+use mathlib.Core.Bool.{Bool, true, false, cond, _&&_, and-false}
 use lib.Dec.{leb, ltb}
 use native.Mathlib.Omega.{arith}
-use borrow.Author.Tests.{leb-true, leb-false, ltb-true, ltb-false}
-use Rattle.objects.proofs.Laws.Below.{and-left, and-right}
+use borrow.Author.Tests.{leb-true, leb-false, ltb-true, ltb-false, le-leb, lt-leb}
+use Rattle.objects.proofs.Laws.Below.{and-left, and-right, and-both}
 use Rattle.rules.specs.declared.Session.{Session}
 use Rattle.rules.specs.Tasks.{allowed, known}
 use Rattle.rules.specs.Events.{trying}
@@ -20,6 +20,15 @@ must false rest k h e = absurd (h e)
 pub must-not : (b : Bool) (rest k : ℕ) → k ≢ 0 → cond b k rest ≡ 0 → (b ≡ false) × (rest ≡ 0)
 must-not true rest k h e = absurd (h e)
 must-not false rest k h e = (refl, e)
+
+pub allowed-zero : (most k : ℕ) → k ≡ 0 → allowed most k ≡ false
+allowed-zero most k e = rw e
+
+pub allowed-past : (most k : ℕ) → most < k → allowed most k ≡ false
+allowed-past most k h = rw (lt-leb k most h) (and-false (leb 1 k))
+
+pub allowed-is : (most k : ℕ) → k ≢ 0 → k ≤ most → allowed most k ≡ true
+allowed-is most k h l = and-both (leb 1 k) (leb k most) (le-leb 1 k (omega arith)) (le-leb k most l)
 
 pub allowed-bounds : (most k : ℕ) → allowed most k ≡ true → (1 ≤ k) × (k ≤ most)
 allowed-bounds most k e = (leb-true 1 k (and-left (leb 1 k) (leb k most) e), leb-true k most (and-right (leb 1 k) (leb k most) e))

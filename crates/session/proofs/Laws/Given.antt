@@ -1,4 +1,4 @@
--- What a function is told of a setup or a session that it is given: how long the tables are, and how many transactions a task's terms can have. It is told each
+-- What a function is told of a session that it is given: how long the tables are, and how many transactions a task's terms can have. It is told each
 -- field's own relation, in the order of the fields; that of an array says how long the array is.
 use Prim.Native.Nat.{ℕ, zero, suc, _<_}
 use mathlib.Core.Path.{_≡_, sym, _∙_}
@@ -11,12 +11,9 @@ use denote.Shadow.{shadow}
 use denote.Laws.{Is}
 use denote.Struct.Declared.{row}
 use denote.Struct.Field.{u64-field}
-use Rattle.rules.specs.declared.Setup.{Setup}
 use Rattle.rules.specs.declared.Task.{Task}
 use Rattle.rules.specs.declared.Session.{Session}
 use Rattle.rules.specs.Tasks.{taskAt, noTask}
-use Rattle.rules.proofs.Terms as terms
-use Rattle.rules.proofs.Setup as setup
 use Rattle.rules.proofs.Task as task
 use Rattle.rules.proofs.Session as session
 
@@ -31,9 +28,6 @@ sizes s values is = record {
   reads = sym (length-map (s .reads) (u64-field .into)) ∙ is .1 .1 .1 .1 .1 .1 .1 .0 .1 .0 .1;
   writes = sym (length-map (s .writes) (u64-field .into)) ∙ is .1 .1 .1 .1 .1 .1 .1 .1 .0 .1 .0 .1;
 }
-
-pub table-size : (u : Setup) (values : List Val) → Is (row setup.the-type) u values → length (u .terms) ≡ 64
-table-size u values is = sym (length-map (u .terms) (terms.the-field .into)) ∙ is .1 .1 .1 .1 .0 .1 .0 .1
 
 -- of the tasks of a list, each at its machine value
 task-few : (ts : List Task) (us : List Val) → shadow (each (task.the-field .row .Denot) (task.the-field .row .own) (map (task.the-field .into) ts) us)

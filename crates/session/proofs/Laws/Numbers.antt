@@ -24,17 +24,6 @@ use Rattle.rules.proofs.State.{the-type}
 use Rattle.session.specs.Events.{numbered}
 use Rattle.rules.proofs.Laws.Numbers.{must, allowed-bounds, timely}
 
--- ---- a number that is allowed
-
-pub allowed-zero : (most k : ℕ) → k ≡ 0 → allowed most k ≡ false
-allowed-zero most k e = rw e
-
-pub allowed-past : (most k : ℕ) → most < k → allowed most k ≡ false
-allowed-past most k h = rw (lt-leb k most h) (and-false (leb 1 k))
-
-pub allowed-is : (most k : ℕ) → k ≢ 0 → k ≤ most → allowed most k ≡ true
-allowed-is most k h l = and-both (leb 1 k) (leb k most) (le-leb 1 k (omega arith)) (le-leb k most l)
-
 -- ---- a state by its tag, at the tags that are not its own
 
 pub not-absent : (s : State) → OneOf (1 ∷ 2 ∷ 3 ∷ []) (tagOf the-type s) → isAbsent s ≡ false

@@ -1,5 +1,5 @@
 -- `session::events::known` meets its contract: each test that fails makes one part of the conjunction false, and the last part is returned. Assumes nothing.
-use Rattle.session.proofs.Laws.Numbers.{allowed-zero, allowed-past, allowed-is}
+use Rattle.rules.proofs.Laws.Numbers.{allowed-zero, allowed-past, allowed-is}
 use Rattle.session.proofs.events.known.Statement.{statement}
 use Rattle.session.proofs.events.known.Tie as tie
 use mathlib.Core.Path.{_≡_}

@@ -1,4 +1,4 @@
--- `session::start::same_setup` meets its contract. The loop's invariant: the terms passed that lie below n are equal. The measure is what is left of the
+-- `setup::same_setup` meets its contract. The loop's invariant: the terms passed that lie below n are equal. The measure is what is left of the
 -- table. Assumes nothing.
 use Prim.Native.Nat.{ℕ, _≤_, _<_, _-_}
 use mathlib.Core.Path.{_≡_, sym, _∙_}
@@ -10,10 +10,10 @@ use borrow.Author.Needs.{needs}
 use borrow.Author.Tests.{not-true, not-false}
 use Rattle.objects.proofs.Laws.Below.{not-both}
 use Rattle.rules.specs.Setup.{termsAt, sameTerms}
-use Rattle.session.proofs.Laws.Given.{table-size}
-use Rattle.session.proofs.Laws.Start.{same-made, differs}
-use Rattle.session.proofs.start.same_setup.Statement.{statement}
-use Rattle.session.proofs.start.same_setup.Tie as tie
+use Rattle.setup.proofs.Laws.Given.{table-size}
+use Rattle.setup.proofs.Laws.Start.{same-made, differs}
+use Rattle.setup.proofs.same_setup.Statement.{statement}
+use Rattle.setup.proofs.same_setup.Tie as tie
 
 abbrev Inv-loop : tie.InvT-loop
 Inv-loop u other i₀ i = (i ≤ 64) × ((j : ℕ) → j < i → j < u .n → sameTerms (termsAt u j) (termsAt other j) ≡ true)

@@ -1,4 +1,4 @@
-// A setup, and the session that it starts.
+// A setup: the number that refuses it, when two are equal, and the session that it starts.
 ghost use mathlib.Core.Path.{_≡_};
 ghost use Rattle.rules.specs.Setup.{termsNumber, setupNumber, sameTerms, sameSetup, quiet, start};
 use rules::Arrival;

@@ -1,11 +1,11 @@
--- `session::start::same_terms` meets its contract: the terms are equal where their three numbers are. Assumes nothing.
+-- `setup::same_terms` meets its contract: the terms are equal where their three numbers are. Assumes nothing.
 use mathlib.Core.Path.{_≡_}
 use lib.Dec.{eqb}
 use borrow.Author.Tests.{eq-eqb, ne-eqb}
 use Rattle.rules.specs.declared.Terms.{Terms}
 use Rattle.rules.specs.Setup.{sameTerms}
-use Rattle.session.proofs.start.same_terms.Statement.{statement}
-use Rattle.session.proofs.start.same_terms.Tie as tie
+use Rattle.setup.proofs.same_terms.Statement.{statement}
+use Rattle.setup.proofs.same_terms.Tie as tie
 
 -- where the priorities and the periods are equal, the transactions decide
 last-decides : (t t′ : Terms) → t .priority ≡ t′ .priority → t .period ≡ t′ .period → eqb (t .transactions) (t′ .transactions) ≡ sameTerms t t′

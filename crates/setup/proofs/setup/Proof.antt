@@ -1,4 +1,4 @@
--- `session::start::setup` meets its contract. The loop's invariant: the tasks passed are fresh at their terms. The measure is what is left of the tasks.
+-- `setup::setup` meets its contract. The loop's invariant: the tasks passed are fresh at their terms. The measure is what is left of the tasks.
 -- Assumes nothing.
 use Prim.Native.Nat.{_≤_, _-_}
 use mathlib.Core.Path.{_≡_, refl, sym, ap, _∙_}
@@ -13,9 +13,9 @@ use Rattle.rules.specs.Tasks.{freshTask}
 use Rattle.rules.specs.Ranking.{byPriority}
 use Rattle.rules.specs.Setup.{termsAt, setupNumber, freshTasks, quiet, fresh, noSession}
 use Rattle.rules.proofs.Fresh.{fresh-sound}
-use Rattle.session.proofs.Laws.Start.{start-refused, start-accepted, fresh-more}
-use Rattle.session.proofs.start.setup.Statement.{statement}
-use Rattle.session.proofs.start.setup.Tie as tie
+use Rattle.setup.proofs.Laws.Start.{start-refused, start-accepted, fresh-more}
+use Rattle.setup.proofs.setup.Statement.{statement}
+use Rattle.setup.proofs.setup.Tie as tie
 
 abbrev Inv-loop : tie.InvT-loop
 Inv-loop u tasks₀ number end i₀ tasks i = (i ≤ end) × (tasks ≡ freshTasks u i)

@@ -1,8 +1,8 @@
--- `session::start::terms_number` meets its contract: each test that fails gives its number. Assumes nothing.
+-- `setup::terms_number` meets its contract: each test that fails gives its number. Assumes nothing.
 use borrow.Author.Tests.{eq-eqb, ne-eqb}
-use Rattle.session.proofs.Laws.Numbers.{allowed-zero, allowed-past, allowed-is}
-use Rattle.session.proofs.start.terms_number.Statement.{statement}
-use Rattle.session.proofs.start.terms_number.Tie as tie
+use Rattle.rules.proofs.Laws.Numbers.{allowed-zero, allowed-past, allowed-is}
+use Rattle.setup.proofs.terms_number.Statement.{statement}
+use Rattle.setup.proofs.terms_number.Tie as tie
 
 returns : tie.Need-returns
 returns c = simp (eq-eqb _ _ (c .if1 .taken))

@@ -1,4 +1,4 @@
--- `session::start::setup_number` meets its contract. The loop's invariant: the tasks passed give no number. The measure is what is left of the tasks.
+-- `setup::setup_number` meets its contract. The loop's invariant: the tasks passed give no number. The measure is what is left of the tasks.
 -- Assumes nothing.
 use Prim.Native.Nat.{_≤_, _-_}
 use mathlib.Core.Path.{_≡_, ap, sym, _∙_}
@@ -7,10 +7,10 @@ use native.Mathlib.Omega.{arith}
 use borrow.Author.Needs.{needs}
 use Rattle.rules.specs.Tasks.{allowed}
 use Rattle.rules.specs.Setup.{firstNumber, setupNumber}
-use Rattle.session.proofs.Laws.Numbers.{allowed-zero, allowed-past, allowed-is}
-use Rattle.session.proofs.Laws.Start.{first-empty, first-more, first-stays, number-of-tasks}
-use Rattle.session.proofs.start.setup_number.Statement.{statement}
-use Rattle.session.proofs.start.setup_number.Tie as tie
+use Rattle.rules.proofs.Laws.Numbers.{allowed-zero, allowed-past, allowed-is}
+use Rattle.setup.proofs.Laws.Start.{first-empty, first-more, first-stays, number-of-tasks}
+use Rattle.setup.proofs.setup_number.Statement.{statement}
+use Rattle.setup.proofs.setup_number.Tie as tie
 
 abbrev Inv-loop : tie.InvT-loop
 Inv-loop u end i₀ i = (i ≤ end) × (firstNumber u i ≡ 0)

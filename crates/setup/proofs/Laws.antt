@@ -1,0 +1,3 @@
+-- The laws that a setup's functions rest on.
+pub mod Given
+pub mod Start

@@ -53,22 +53,21 @@ fn run(arguments: &[OsString]) -> io::Result<ExitCode> {
         ["text"] => text_of_log(),
         ["make", seed, kind, size @ ..] => make(seed, kind, size),
         ["compare", ..] if arguments.len() > 1 => {
-            let passed = compare::compare(&arguments[1..], &mut io::stdout().lock())?;
-            Ok(if passed {
-                ExitCode::SUCCESS
-            } else {
-                ExitCode::FAILURE
-            })
+            compare::compare(&arguments[1..], &mut io::stdout().lock()).map(verdict)
         }
         ["bench", ..] if arguments.len() > 1 => {
-            let passed = bench::bench(&arguments[1..], &mut io::stdout().lock())?;
-            Ok(if passed {
-                ExitCode::SUCCESS
-            } else {
-                ExitCode::FAILURE
-            })
+            bench::bench(&arguments[1..], &mut io::stdout().lock()).map(verdict)
         }
         _ => Ok(usage()),
+    }
+}
+
+/// The status of a comparison: success if nothing failed.
+fn verdict(passed: bool) -> ExitCode {
+    if passed {
+        ExitCode::SUCCESS
+    } else {
+        ExitCode::FAILURE
     }
 }
 

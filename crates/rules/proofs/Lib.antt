@@ -1,4 +1,5 @@
--- The theorems of the rules, and the laws that they share.
+-- The theorems of the rules, and the laws that they share. Demand 3 is read in this order: Moves (what an event does, task by task), Told (history follows it), Jobs (how
+-- often a task can commit), Known (what is known at every place of a run), Demand3.
 pub mod Laws
 pub mod Cases
 pub mod Ranking
@@ -7,8 +8,8 @@ pub mod Accepted
 pub mod Fresh
 pub mod Events
 pub mod Moves
-pub mod Jobs
 pub mod Told
+pub mod Jobs
 pub mod Known
 pub mod Demand3
 pub mod Contest

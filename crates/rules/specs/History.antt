@@ -25,10 +25,12 @@ pub record Call : Type 0 where
   pub said : Said
   pub admitted : List ℕ
 
+-- the tasks that are listed, without their retry counts
 unfoldable pub tasksOf : List Admission → List ℕ
 tasksOf [] = []
 tasksOf (a ∷ more) = a .task ∷ tasksOf more
 
+-- what stands in the unused places of a list
 abbrev pub noAdmission : Admission
 noAdmission = record { task = 0; retries = 0 }
 
@@ -36,13 +38,16 @@ noAdmission = record { task = 0; retries = 0 }
 abbrev pub heard : Event → Answer → Call
 heard e a = record { event = e; said = a .said; admitted = tasksOf (admissions (a .admitted)) }
 
+-- the list names task i
 unfoldable pub names : List ℕ → ℕ → Bool
 names [] i = false
 names (j ∷ more) i = eqb j i || names more i
 
+-- its scan admitted task i
 abbrev pub admits : Call → ℕ → Bool
 admits c i = names (c .admitted) i
 
+-- '0: accepted'
 abbrev pub accepted : Call → Bool
 accepted c = eqb (number (c .said)) 0
 

@@ -14,11 +14,11 @@ use Rattle.rules.specs.Answers.{number}
 use Rattle.rules.specs.Ranking.{byPriority}
 use Rattle.rules.specs.Setup.{setupNumber, fresh, noSession, start}
 use Rattle.rules.specs.Events.{step}
-use Rattle.rules.specs.History.{Call, heard, passed}
+use Rattle.rules.specs.History.{Call, heard}
 use Rattle.rules.specs.Demand3.{Run, begun, called, AdmissionsCount}
 use Rattle.rules.proofs.Ranking.{priority-strict}
 use Rattle.rules.proofs.Demand3.{fresh-starts, once-running, held-back, retries-counted, admitted-counted, bounded, running-apart, as-told}
-use Rattle.session.specs.Demand3.{Answered, arrives, releases, commits, finishes, steps, Calls, none, then, Holds, Demand3}
+use Rattle.session.specs.Demand3.{Answered, arrives, releases, commits, finishes, steps, Calls, none, then, Demand3}
 
 answered : (s : Session) (e : Event) (answer : Answer) → Answered s e answer → answer ≡ step byPriority s e
 unfolding step

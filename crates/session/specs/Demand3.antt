@@ -7,7 +7,7 @@ use mathlib.Core.List.{List, [], _∷_}
 use Rattle.objects.specs.Below.{count}
 use Rattle.rules.specs.declared.Setup.{Setup}
 use Rattle.rules.specs.declared.Session.{Session}
-use Rattle.rules.specs.declared.Kind.the-variants.{Arrive, Release, Commit, Finish}
+use Rattle.rules.specs.declared.Kind.the-variants.{Arrive, Commit, Finish}
 use Rattle.rules.specs.declared.Event.{Event}
 use Rattle.rules.specs.declared.Answer.{Answer}
 use Rattle.rules.specs.declared.Started.{Started}
@@ -16,7 +16,7 @@ use Rattle.rules.specs.Answers.{number}
 use Rattle.rules.specs.Ranking.{byPriority}
 use Rattle.rules.specs.Tasks.{executing}
 use Rattle.rules.specs.Setup.{start}
-use Rattle.rules.specs.Events.{arrive, release, commit, finish, step, empty}
+use Rattle.rules.specs.Events.{arrive, release, commit, finish, step}
 use Rattle.rules.specs.Sum.{summed}
 use Rattle.rules.specs.Cases.{plainEvent, releaseOf}
 use Rattle.rules.specs.History.{Call, heard, waitLength, passed}

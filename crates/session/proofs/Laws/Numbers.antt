@@ -4,13 +4,13 @@ use Prim.Native.Nat.{ℕ, _≤_, _<_}
 use mathlib.Core.Path.{_≡_, refl, sym, _∙_}
 use mathlib.Core.Logic.{_≢_, ⊎-elim}
 use mathlib.Core.List.{List, [], _∷_}
-use mathlib.Core.Bool.{Bool, true, false, cond, _&&_, and-false, false≢true}
+use mathlib.Core.Bool.{Bool, true, false, cond, _&&_, false≢true}
 use lib.Dec.{eqb, leb, ltb}
 use native.Mathlib.Omega.{arith}
-use borrow.Author.Tests.{ltb-true, le-ltb, lt-ltb, le-leb, lt-leb, ne-eqb}
+use borrow.Author.Tests.{ltb-true, le-ltb, lt-ltb, ne-eqb}
 use types.Run.{OneOf}
 use denote.Enum.Declared.{tagOf}
-use Rattle.objects.proofs.Laws.Below.{and-left, and-right, and-both}
+use Rattle.objects.proofs.Laws.Below.{and-left, and-right}
 use Rattle.rules.specs.declared.State.{State}
 use Rattle.rules.specs.declared.State.the-variants.{Absent, Plain, Waiting, Executing}
 use Rattle.rules.specs.declared.Session.{Session}

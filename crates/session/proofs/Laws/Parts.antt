@@ -12,7 +12,7 @@ use Rattle.rules.specs.declared.Answer.{Answer}
 use Rattle.rules.specs.Ranking.{byPriority}
 use Rattle.rules.specs.Tasks.{withTasks}
 use Rattle.rules.specs.Room.{rankAt}
-use Rattle.rules.specs.Scan.{next, admissible, Scanned, none, admit, tried, look, scan}
+use Rattle.rules.specs.Scan.{next, admissible, Scanned, none, admit, look, scan}
 use Rattle.rules.specs.Events.{scanning}
 use Rattle.session.specs.declared.scan.Scan.{Scan}
 use Rattle.session.specs.Events.{tabled, scanIn}

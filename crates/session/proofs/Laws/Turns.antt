@@ -12,12 +12,9 @@ use lib.ListN.{getD, set}
 use borrow.Author.Tests.{ne-eqb}
 use Rattle.objects.specs.Below.{count}
 use Rattle.rules.specs.declared.Session.{Session}
-use Rattle.rules.specs.declared.Said.{Said}
-use Rattle.rules.specs.declared.Answer.{Answer}
 use Rattle.rules.specs.Ranking.{Ranking, byPriority}
 use Rattle.rules.specs.Tasks.{executing}
 use Rattle.rules.specs.Room.{rankAt}
-use Rattle.rules.specs.Events.{scanning}
 use Rattle.rules.specs.Scan.{next, admissible, Scanned, none, admit, tried, look, scan}
 use Rattle.rules.proofs.Laws.Kept.{Kept}
 use Rattle.rules.proofs.Laws.Tasks.{waiting-inside}

@@ -1,0 +1,3 @@
+-- The report: what is booked, by an event and into a tally, by the calls; then the same over the list of sessions, and the theorem that joins them.
+pub mod Items
+pub mod Booking

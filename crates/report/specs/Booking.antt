@@ -8,6 +8,7 @@ use lib.ListN.{getD, set, replicate}
 use Rattle.rules.specs.declared.Setup.{Setup}
 use Rattle.rules.specs.declared.State.{State}
 use Rattle.rules.specs.declared.State.the-variants.{Absent, Plain, Waiting, Executing}
+use Rattle.rules.specs.declared.Task.{Task}
 use Rattle.rules.specs.declared.Session.{Session}
 use Rattle.rules.specs.declared.Event.{Event}
 use Rattle.rules.specs.declared.Said.{Said}
@@ -15,7 +16,7 @@ use Rattle.rules.specs.declared.Admission.{Admission}
 use Rattle.rules.specs.declared.Answer.{Answer}
 use Rattle.rules.specs.Answers.{number}
 use Rattle.rules.specs.Ranking.{byPriority}
-use Rattle.rules.specs.Tasks.{stateAt}
+use Rattle.rules.specs.Tasks.{noTask}
 use Rattle.rules.specs.Setup.{setupNumber, sameSetup, fresh, noSession}
 use Rattle.rules.specs.Events.{step}
 use Rattle.rules.specs.History.{noAdmission, isRelease, isCommit, isWait}
@@ -45,11 +46,11 @@ opened s = record { session = s; waited = replicate 64 false }
 unfoldable pub opening : Tally → Setup → WithOpened
 unfolding openNumber fresh noSession
 opening t u =
-    let opens = record {
+    let opens : WithOpened = record {
       tally = record { taken = true; setup = u; figures = t .figures };
       opened = record { number = 0; after = opened (fresh u) };
     } in
-    let refuses = record { tally = t; opened = record { number = openNumber t u; after = opened noSession } } in
+    let refuses : WithOpened = record { tally = t; opened = record { number = openNumber t u; after = opened noSession } } in
     cond (eqb (openNumber t u) 0) opens refuses
 
 -- ---- booking an event
@@ -62,25 +63,27 @@ ticksOf (Waiting w) tick = tick - w .release
 ticksOf Executing tick = 0
 
 -- an admission books the wait of the task, as the session before the event has it, and its retries
-abbrev pub waitItem : Session → ℕ → Admission → Item
-waitItem s tick a = wait (a .task) (ticksOf (stateAt s (a .task)) tick) (a .retries)
+abbrev pub waitItem : List Task → ℕ → Admission → Item
+waitItem tasks tick a = wait (a .task) (ticksOf (getD tasks (a .task) noTask .state) tick) (a .retries)
 
 -- the first k admissions of a list
-unfoldable pub waitItems : Session → ℕ → List Admission → ℕ → List Item
-waitItems s tick list zero = []
-waitItems s tick list (suc k) = waitItems s tick list k ++ (waitItem s tick (getD list k noAdmission) ∷ [])
+unfoldable pub waitItems : List Task → ℕ → List Admission → ℕ → List Item
+waitItems tasks tick list zero = []
+waitItems tasks tick list (suc k) = waitItems tasks tick list k ++ (waitItem tasks tick (getD list k noAdmission) ∷ [])
+
+-- a commit, if it is accepted
+abbrev pub commitItems : List Bool → Event → Said → List Item
+commitItems waited e said = cond (eqb (number said) 0 && isCommit (e .kind)) (commit (e .task) (getD waited (e .task) false) ∷ []) []
 
 -- what an event with this answer books: its commit, and then the waits that its scan ended
 unfoldable pub items : OpenSession → Event → Answer → List Item
 unfolding waitItems
 items o e a =
-    let commits = eqb (number (a .said)) 0 && isCommit (e .kind) in
-    cond commits (commit (e .task) (getD (o .waited) (e .task) false) ∷ []) []
-    ++ waitItems (o .session) (e .tick) (a .admitted .list) (a .admitted .count)
+    commitItems (o .waited) e (a .said) ++ waitItems (o .session .tasks) (e .tick) (a .admitted .list) (a .admitted .count)
 
 -- whether the transaction that each task released last had to wait, after an event with this answer
-abbrev pub waitedAfter : OpenSession → Event → Said → List Bool
-waitedAfter o e said = cond (eqb (number said) 0 && isRelease (e .kind)) (set (o .waited) (e .task) (isWait said)) (o .waited)
+abbrev pub waitedAfter : List Bool → Event → Said → List Bool
+waitedAfter waited e said = cond (eqb (number said) 0 && isRelease (e .kind)) (set waited (e .task) (isWait said)) waited
 
 -- the manager's own refusal; then '41, a total would pass 4,294,967,295, tried last'
 unfoldable pub bookNumber : Tally → OpenSession → Event → ℕ
@@ -103,7 +106,7 @@ booking t o e =
         number = bookNumber t o e;
         said = a .said;
         admitted = a .admitted;
-        after = record { session = a .session; waited = waitedAfter o e (a .said) };
+        after = record { session = a .session; waited = waitedAfter (o .waited) e (a .said) };
       };
     }
 

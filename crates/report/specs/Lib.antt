@@ -1,3 +1,5 @@
 -- The report: what is booked, by an event and into a tally, by the calls; then the same over the list of sessions, and the theorem that joins them.
 pub mod Items
 pub mod Booking
+pub mod Ledger
+pub mod Report

@@ -1,13 +1,4 @@
-// The report: what the events of sessions, one after another, book into a lent tally.
-//
-// Read in this order: figures (one item and a task's figures), entry (what one event books), by_value (the two calls by value), lent (the same into a lent tally).
-mod by_value;
-mod lent;
-
-pub use by_value::booking;
-pub use by_value::opening;
-pub use lent::book_event;
-pub use lent::open_session;
+// The report's values: the figures of a task, the tally, a session that is open for booking, and the answers. What happens to them is in specs/; there is no function here.
 use rules::Admissions;
 use rules::Said;
 use rules::Session;

@@ -1,12 +1,12 @@
 // The two calls by value.
 ghost use mathlib.Core.Path.{_≡_};
 ghost use Rattle.report.specs.Booking.{opening, booking, rowAfter};
-use crate::Booked;
-use crate::OpenSession;
-use crate::Opened;
-use crate::Tally;
-use crate::WithBooked;
-use crate::WithOpened;
+use report::Booked;
+use report::OpenSession;
+use report::Opened;
+use report::Tally;
+use report::WithBooked;
+use report::WithOpened;
 use rules::Event;
 use rules::Setup;
 

@@ -1,12 +1,12 @@
 // The two calls into a lent tally. Each reads it whole, has the call by value do the work, and writes it whole.
 ghost use mathlib.Core.Path.{_≡_};
 ghost use Rattle.report.specs.Booking.{opening, booking, rowAfter};
-use crate::Booked;
-use crate::OpenSession;
-use crate::Opened;
-use crate::Tally;
 use crate::booking;
 use crate::opening;
+use report::Booked;
+use report::OpenSession;
+use report::Opened;
+use report::Tally;
 use rules::Event;
 use rules::Setup;
 

@@ -1,0 +1,54 @@
+-- The theorem: after any list of sessions booked one after another from an empty tally, each figure and each place of the row is its definition over the list.
+use Prim.Native.Nat.{ℕ, _<_}
+use mathlib.Core.Path.{_≡_}
+use mathlib.Core.List.{List, [], _∷_, _++_}
+use mathlib.Core.Bool.{cond}
+use lib.Dec.{eqb}
+use Rattle.rules.specs.declared.Setup.{Setup}
+use Rattle.rules.specs.declared.Event.{Event}
+use Rattle.rules.specs.Answers.{number}
+use Rattle.rules.specs.Setup.{noSession}
+use Rattle.rules.specs.Lines.{admissions}
+use Rattle.rules.specs.History.{Call, tasksOf}
+use Rattle.report.specs.declared.Tally.{Tally}
+use Rattle.report.specs.declared.OpenSession.{OpenSession}
+use Rattle.report.specs.declared.Booked.{Booked}
+use Rattle.report.specs.Items.{figuresAt, waitsIn, written}
+use Rattle.report.specs.Booking.{emptyTally, opened, openNumber, opening, bookNumber, booking, rowAfter}
+use Rattle.report.specs.Ledger.{booksOf, figuresOf, fitting, ledger}
+
+-- the call of an event that was answered so
+abbrev pub heardBy : Event → Booked → Call
+heardBy e b = record { event = e; said = b .said; admitted = tasksOf (admissions (b .admitted)) }
+
+-- sessions booked one after another, from an empty tally and any row: the tally, the row and the open session that they lead to, with the calls of each session. A
+-- refused opening makes no session. An event that is refused, by the manager or with 41, is a call as any other.
+pub data Reported (u : Setup) (start : List ℕ) : Tally → List ℕ → OpenSession → List (List Call) → Type 0 where
+  begun : Reported u start (emptyTally u) start (opened noSession) []
+  opens : {t : Tally} {row : List ℕ} {o : OpenSession} {sessions : List (List Call)} → Reported u start t row o sessions → (v : Setup)
+      → openNumber t v ≡ 0 → Reported u start (opening t v .tally) row (opening t v .opened .after) ([] ∷ sessions)
+  books : {t : Tally} {row : List ℕ} {o : OpenSession} {calls : List Call} {earlier : List (List Call)}
+      → Reported u start t row o (calls ∷ earlier) → (e : Event)
+      → Reported u start (booking t o e .tally) (rowAfter t o e row) (booking t o e .booked .after) ((heardBy e (booking t o e .booked) ∷ calls) ∷ earlier)
+
+abbrev pub InEveryReport : (List ℕ → Tally → List ℕ → OpenSession → List (List Call) → Type 0) → Type 0
+InEveryReport Holds =
+    (u : Setup) (start : List ℕ) (t : Tally) (row : List ℕ) (o : OpenSession) (sessions : List (List Call)) → Reported u start t row o sessions
+    → Holds start t row o sessions
+
+-- 'Every figure equals its definition over the list of events'
+abbrev pub FiguresAre : Type 0
+FiguresAre = InEveryReport (λ start t row o sessions. (i : ℕ) → i < 64 → figuresAt (t .figures) i ≡ figuresOf i (ledger sessions))
+
+-- 'wait i, from 0, goes to place i mod the lesser of 4,096 and its places': the row is what it was with the waits of all tasks written, in order of admission
+abbrev pub RowIs : Type 0
+RowIs = InEveryReport (λ start t row o sessions. row ≡ written start 0 (waitsIn (ledger sessions)))
+
+-- the next event's number: the manager's own; else 41 exactly if with what it books some total of some task would pass
+abbrev pub LeftOut : Type 0
+LeftOut =
+    (u : Setup) (start : List ℕ) (t : Tally) (row : List ℕ) (o : OpenSession) (calls : List Call) (earlier : List (List Call))
+    → Reported u start t row o (calls ∷ earlier) → (e : Event)
+    → let b = booking t o e .booked in
+    let new = booksOf (heardBy e b) calls in
+    b .number ≡ cond (eqb (number (b .said)) 0) (cond (fitting (ledger (calls ∷ earlier) ++ new)) 0 41) (number (b .said))

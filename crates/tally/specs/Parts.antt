@@ -1,0 +1,20 @@
+-- Parts of a booking, as the functions that make them say them.
+use Prim.Native.Nat.{ℕ, _≤_, _<_}
+use mathlib.Core.Bool.{false, cond}
+use lib.ListN.{getD}
+use Rattle.rules.specs.declared.Admissions.{Admissions}
+use Rattle.rules.specs.History.{noAdmission}
+use Rattle.report.specs.declared.Figures.{Figures}
+use Rattle.tally.specs.declared.item.Counted.{Counted}
+use Rattle.report.specs.Items.{Item, after, fits}
+
+-- one item more, where it fits
+abbrev pub counted : Figures → Item → Counted
+counted f x = record { fits = fits f x; figures = cond (fits f x) (after f x) f }
+
+abbrev pub passing : Figures → Counted
+passing f = record { fits = false; figures = f }
+
+-- what is listed lies within the tables
+abbrev pub Inside : Admissions → Type 0
+Inside a = (a .count ≤ 16) × ((k : ℕ) → k < a .count → getD (a .list) k noAdmission .task < 64)

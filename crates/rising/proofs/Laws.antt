@@ -1,0 +1,3 @@
+-- The laws that proofs cite: of counts, and of the rising order.
+pub mod Counts
+pub mod Order

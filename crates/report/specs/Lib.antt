@@ -2,4 +2,5 @@
 pub mod Items
 pub mod Booking
 pub mod Ledger
+pub mod Sheet
 pub mod Report

@@ -4,6 +4,7 @@ use mathlib.Core.Path.{_≡_}
 use mathlib.Core.List.{List, [], _∷_, _++_}
 use mathlib.Core.Bool.{cond}
 use lib.Dec.{eqb}
+use lib.ListN.{length}
 use Rattle.rules.specs.declared.Setup.{Setup}
 use Rattle.rules.specs.declared.Event.{Event}
 use Rattle.rules.specs.Answers.{number}
@@ -16,6 +17,7 @@ use Rattle.report.specs.declared.Booked.{Booked}
 use Rattle.report.specs.Items.{figuresAt, waitsIn, written}
 use Rattle.report.specs.Booking.{emptyTally, opened, openNumber, opening, bookNumber, booking, rowAfter}
 use Rattle.report.specs.Ledger.{booksOf, figuresOf, fitting, ledger}
+use Rattle.report.specs.Sheet.{middle, nineTenths, middleOf, nineTenthsOf}
 
 -- the call of an event that was answered so
 abbrev pub heardBy : Event → Booked → Call
@@ -52,3 +54,10 @@ LeftOut =
     → let b = booking t o e .booked in
     let new = booksOf (heardBy e b) calls in
     b .number ≡ cond (eqb (number (b .said)) 0) (cond (fitting (ledger (calls ∷ earlier) ++ new)) 0 41) (number (b .said))
+
+-- 'the wait at the middle and at nine tenths over the last k waits of all tasks in order of admission'
+abbrev pub MiddleIs : Type 0
+MiddleIs = InEveryReport (λ start t row o sessions. middle t row ≡ middleOf (length start) (ledger sessions))
+
+abbrev pub NineTenthsIs : Type 0
+NineTenthsIs = InEveryReport (λ start t row o sessions. nineTenths t row ≡ nineTenthsOf (length start) (ledger sessions))

@@ -1,17 +1,26 @@
 -- Parts of a booking, as the functions that make them say them.
-use Prim.Native.Nat.{ℕ, _≤_, _<_}
-use mathlib.Core.Bool.{false, cond}
+use Prim.Native.Nat.{ℕ, _+_, _≤_, _<_}
+use mathlib.Core.Bool.{Bool, false, cond}
 use lib.ListN.{getD}
 use Rattle.rules.specs.declared.Admissions.{Admissions}
 use Rattle.rules.specs.History.{noAdmission}
 use Rattle.report.specs.declared.Figures.{Figures}
+use Rattle.tally.specs.declared.item.Sum.{Sum}
 use Rattle.tally.specs.declared.item.Counted.{Counted}
-use Rattle.report.specs.Items.{Item, after, fits}
+use Rattle.report.specs.Items.{Item, within, after, fits}
+
+-- so much more, where it fits
+abbrev pub added : ℕ → ℕ → Sum
+added total more = record { fits = within (total + more); total = cond (within (total + more)) (total + more) total }
 
 -- one item more, where it fits
-abbrev pub counted : Figures → Item → Counted
-counted f x = record { fits = fits f x; figures = cond (fits f x) (after f x) f }
+abbrev pub countedBy : Bool → Figures → Item → Counted
+countedBy b f x = record { fits = b; figures = cond b (after f x) f }
 
+abbrev pub counted : Figures → Item → Counted
+counted f x = countedBy (fits f x) f x
+
+-- and where it does not
 abbrev pub passing : Figures → Counted
 passing f = record { fits = false; figures = f }
 

@@ -1,8 +1,43 @@
 // One item, and the figures of its task.
 ghost use mathlib.Core.Path.{_≡_};
+ghost use Prim.Native.Nat.{max};
+ghost use Rattle.objects.specs.Below.{one};
 ghost use Rattle.report.specs.Items.{commit, wait};
-ghost use Rattle.tally.specs.Parts.{counted, passing};
+ghost use Rattle.tally.specs.Parts.{added, counted, passing};
 use report::Figures;
+
+// A total with so much more, and whether it fits; where it would pass, it is as it was.
+pub(crate) struct Sum {
+    pub fits: bool,
+    pub total: u32,
+}
+
+fn add(total: u32, more: u32) -> Sum
+    ensures { λ s. ⌜ s ≡ added total more ⌝ }
+{
+    if 4294967295 - total < more {
+        return Sum {
+            fits: false,
+            total: total,
+        };
+    }
+    Sum {
+        fits: true,
+        total: total + more,
+    }
+}
+
+fn one_if(yes: bool) -> u32
+    ensures { λ x. ⌜ x ≡ one yes ⌝ }
+{
+    if yes { 1 } else { 0 }
+}
+
+fn longer(ticks: u32, other: u32) -> u32
+    ensures { λ x. ⌜ x ≡ max ticks other ⌝ }
+{
+    if ticks < other { other } else { ticks }
+}
 
 // The figures with one item more, and whether no total passes; where one would, the figures are as they were.
 pub(crate) struct Counted {
@@ -23,21 +58,19 @@ fn refuse(f: Figures) -> Counted
 pub(crate) fn with_commit(f: Figures, waited: bool) -> Counted
     ensures { λ c. ⌜ c ≡ counted f (commit 0 waited) ⌝ }
 {
-    if f.committed == 4294967295 {
+    let committed = add(f.committed, 1);
+    if !committed.fits {
         return refuse(f);
     }
-    let mut of_them = f.waited;
-    if waited {
-        if of_them == 4294967295 {
-            return refuse(f);
-        }
-        of_them += 1;
+    let had_waited = add(f.waited, one_if(waited));
+    if !had_waited.fits {
+        return refuse(f);
     }
     Counted {
         fits: true,
         figures: Figures {
-            committed: f.committed + 1,
-            waited: of_them,
+            committed: committed.total,
+            waited: had_waited.total,
             retries: f.retries,
             longest: f.longest,
             ticks: f.ticks,
@@ -50,25 +83,27 @@ pub(crate) fn with_commit(f: Figures, waited: bool) -> Counted
 pub(crate) fn with_wait(f: Figures, ticks: u32, retries: u32) -> Counted
     ensures { λ c. ⌜ c ≡ counted f (wait 0 ticks retries) ⌝ }
 {
-    if 4294967295 - f.retries < retries {
+    let all_retries = add(f.retries, retries);
+    if !all_retries.fits {
         return refuse(f);
     }
-    if 4294967295 - f.ticks < ticks {
+    let all_ticks = add(f.ticks, ticks);
+    if !all_ticks.fits {
         return refuse(f);
     }
-    if f.waits == 4294967295 {
+    let waits = add(f.waits, 1);
+    if !waits.fits {
         return refuse(f);
     }
-    let longest = if f.longest < ticks { ticks } else { f.longest };
     Counted {
         fits: true,
         figures: Figures {
             committed: f.committed,
             waited: f.waited,
-            retries: f.retries + retries,
-            longest: longest,
-            ticks: f.ticks + ticks,
-            waits: f.waits + 1,
+            retries: all_retries.total,
+            longest: longer(f.longest, ticks),
+            ticks: all_ticks.total,
+            waits: waits.total,
         },
     }
 }

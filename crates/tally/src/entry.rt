@@ -1,10 +1,9 @@
 // What one event books.
 ghost use mathlib.Core.Path.{_≡_};
 ghost use mathlib.Core.Bool.{true};
-ghost use Prim.Native.Nat.{ℕ, _<_, _≤_, _+_, _^_};
-ghost use lib.ListN.{getD};
+ghost use Prim.Native.Nat.{_<_, _-_, _^_, min};
 ghost use Rattle.rules.specs.Answers.{number};
-ghost use Rattle.rules.specs.History.{noAdmission, isCommit, isRelease, isWait};
+ghost use Rattle.rules.specs.History.{isCommit, isRelease, isWait};
 ghost use Rattle.report.specs.Items.{entered, enterable, waitsBooked, waitsIn, written};
 ghost use Rattle.report.specs.Booking.{ticksOf, waitItems, commitItems, waitedAfter};
 ghost use Rattle.tally.specs.Parts.{Inside};
@@ -75,17 +74,23 @@ fn is_wait(said: Said) -> bool
     }
 }
 
+// The ticks from a release to now; 0 where it would be later than now.
+fn ticks_since(release: u32, tick: u32) -> u32
+    ensures { λ x. ⌜ x ≡ tick - release ⌝ }
+{
+    if tick < release { 0 } else { tick - release }
+}
+
 // The ticks of a wait that ends now.
 fn ticks_of(state: State, tick: u32) -> u32
     ensures { λ x. ⌜ x ≡ ticksOf state tick ⌝ }
 {
-    let State::Waiting(w) = state else {
-        return 0;
-    };
-    if tick < w.release {
-        return 0;
+    match state {
+        State::Absent => 0,
+        State::Plain => 0,
+        State::Waiting(w) => ticks_since(w.release, tick),
+        State::Executing => 0,
     }
-    tick - w.release
 }
 
 // Whether the transaction that each task released last had to wait, after an event.
@@ -114,20 +119,26 @@ pub(crate) fn enter_commit(
     ensures fits { λ x. ⌜ x .fits ≡ enterable figures (commitItems waited e said) ⌝ }
     ensures figures { λ x. ⌜ (x .fits ≡ true → x .figures ≡ entered figures (commitItems waited e said)) ⌝ }
 {
-    let mut fits = true;
     let kind = e.kind;
-    if number_of(said) == 0 {
-        if is_commit(kind) {
-            let i = e.task as usize;
-            let f = figures[i];
-            let x = with_commit(f, waited[i]);
-            let after = x.figures;
-            fits = x.fits;
-            figures[i] = after;
-        }
+    if number_of(said) != 0 {
+        return Entered {
+            fits: true,
+            figures: figures,
+        };
     }
+    if !is_commit(kind) {
+        return Entered {
+            fits: true,
+            figures: figures,
+        };
+    }
+    let i = e.task as usize;
+    let f = figures[i];
+    let x = with_commit(f, waited[i]);
+    let after = x.figures;
+    figures[i] = after;
     Entered {
-        fits: fits,
+        fits: x.fits,
         figures: figures,
     }
 }
@@ -144,7 +155,6 @@ pub(crate) fn enter_waits(
     ensures figures { λ x. ⌜ (x .fits ≡ true → x .figures ≡ entered figures (waitItems tasks tick (admitted .list) (admitted .count))) ⌝ }
 {
     let end = admitted.count as usize;
-    let mut fits = true;
     for k in 0..end {
         let a = admitted.list[k];
         let i = a.task as usize;
@@ -153,14 +163,16 @@ pub(crate) fn enter_waits(
         let f = figures[i];
         let x = with_wait(f, ticks_of(state, tick), a.retries);
         if !x.fits {
-            fits = false;
-            break;
+            return Entered {
+                fits: false,
+                figures: figures,
+            };
         }
         let after = x.figures;
         figures[i] = after;
     }
     Entered {
-        fits: fits,
+        fits: true,
         figures: figures,
     }
 }
@@ -178,6 +190,13 @@ pub(crate) fn waits_booked(figures: [Figures; 64]) -> usize
     total
 }
 
+// The places of a row of this length that waits go to.
+fn places_in(size: usize) -> usize
+    ensures { λ places. ⌜ places ≡ min 4096 size ⌝ }
+{
+    if size < 4096 { size } else { 4096 }
+}
+
 // Writes the waits that a scan ended into the row, the first of them as wait number `from`.
 pub(crate) fn write_waits(
     row: &mut [u32],
@@ -189,10 +208,7 @@ pub(crate) fn write_waits(
     requires { ⌜ Inside admitted × (from < 2 ^ 40) ⌝ }
     ensures { λ _. ⌜ now (row .exit) ≡ written (now (row .entry)) from (waitsIn (waitItems tasks tick (admitted .list) (admitted .count))) ⌝ }
 {
-    let mut places = row.len();
-    if 4096 < places {
-        places = 4096;
-    }
+    let places = places_in(row.len());
     if places == 0 {
         return;
     }

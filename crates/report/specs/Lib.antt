@@ -3,4 +3,5 @@ pub mod Items
 pub mod Booking
 pub mod Ledger
 pub mod Sheet
+pub mod Row
 pub mod Report

@@ -4,7 +4,6 @@ use Prim.Native.Nat.{ℕ, _+_, _-_, _%_, _≤_, _<_, zero-le}
 use mathlib.Core.Path.{_≡_, refl, sym, ap, subst, _∙_}
 use mathlib.Core.Logic.{_⊎_, inl, inr, _≢_}
 use mathlib.Core.List.{List, [], _∷_, _++_, append-nil}
-use mathlib.Core.Bool.{Bool, cond}
 use native.Mathlib.Nat.{mod-lt, mod-le, mod-eq-of-lt, mod-eq-sub-mod, mod-add-mod, not-suc-le-zero, sub-self}
 use native.Mathlib.Omega.{arith}
 use lib.ListN.{length, getD, set, take, drop, length-append, length-take, length-drop, length-set, take-append-drop, drop-of-length-le, List·getD-append}
@@ -45,10 +44,10 @@ apart c i n l h e = go (turn c i (n - i) (omega arith) (omega arith))
 -- ---- one wait
 
 put-none : (row : List ℕ) (i t : ℕ) → placesOf row ≡ 0 → putWait row i t ≡ row
-put-none row i t e = ap (λ (b : Bool). cond b row (set row (i % placesOf row) t)) (eq-eqb (placesOf row) 0 e)
+put-none row i t e = rw (eq-eqb (placesOf row) 0 e)
 
 put-some : (row : List ℕ) (i t : ℕ) → 0 < placesOf row → putWait row i t ≡ set row (i % placesOf row) t
-put-some row i t l = ap (λ (b : Bool). cond b row (set row (i % placesOf row) t)) (ne-eqb (placesOf row) 0 (λ e. omega arith))
+put-some row i t l = rw (ne-eqb (placesOf row) 0 (λ e. omega arith))
 
 module _ (start waits row : List ℕ) (so-far : Placed start waits row) (t : ℕ) where
   -- with no place the row stays

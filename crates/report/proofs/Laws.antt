@@ -1,2 +1,6 @@
--- The laws that proofs cite: of the row of waits.
+-- The laws that the theorem stands on.
+pub mod Totals
+pub mod Entering
+pub mod Writing
 pub mod Row
+pub mod Events

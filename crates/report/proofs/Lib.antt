@@ -1,2 +1,3 @@
--- The theorems of the report, and the laws that they share.
+-- Why the report's figures are what the events say: the laws, and the theorem over the list of sessions.
 pub mod Laws
+pub mod Report

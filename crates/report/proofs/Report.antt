@@ -1,0 +1,160 @@
+-- The theorem: an induction over the sessions. While a session is open its calls are a run, so that each event books what history says of it; and what is booked keeps
+-- the figures, the row and that every total fits.
+use Prim.Native.Nat.{ℕ}
+use mathlib.Core.Path.{_≡_, refl, ap}
+use mathlib.Core.Logic.{_⊎_, inl, inr}
+use mathlib.Core.List.{List, [], _∷_, _++_, append-nil}
+use mathlib.Core.Bool.{Bool, true, false, cond, not, _&&_}
+use native.Mathlib.Nat.{zero-add}
+use lib.Dec.{eqb}
+use lib.ListN.{length, length-replicate, getD-replicate}
+use borrow.Author.Tests.{eq-eqb, eqb-true}
+use Rattle.objects.proofs.Laws.Below.{all-from}
+use Rattle.rules.specs.declared.Setup.{Setup}
+use Rattle.rules.specs.declared.Event.{Event}
+use Rattle.rules.specs.declared.Answer.{Answer}
+use Rattle.rules.specs.Answers.{number}
+use Rattle.rules.specs.Ranking.{byPriority}
+use Rattle.rules.specs.Setup.{setupNumber, sameSetup, fresh}
+use Rattle.rules.specs.Events.{step}
+use Rattle.rules.specs.History.{Call, heard}
+use Rattle.rules.specs.Demand3.{begun as startsRun}
+use Rattle.rules.proofs.Demand3.{fresh-starts}
+use Rattle.report.specs.declared.Tally.{Tally}
+use Rattle.report.specs.declared.OpenSession.{OpenSession}
+use Rattle.report.specs.Items.{Item, noFigures, entered, enterable, waitsBooked, waitsIn, written}
+use Rattle.report.specs.Booking.{emptyTally, opened, openNumber, opening, items, bookNumber, withFigures, booking, rowAfter}
+use Rattle.report.specs.Ledger.{hadWaited, booksOf, total, greatest, figuresOf, totalsFit, fitting, bookedWith, bookedBy, ledger}
+use Rattle.report.specs.Report.{Reported, begun, opens, books, InEveryReport, FiguresAre, RowIs, LeftOut}
+use Rattle.report.proofs.Laws.Entering.{Numbered, none, numbered-append, Agree, entered-agree, enterable-fitting}
+use Rattle.report.proofs.Laws.Writing.{waits-append, written-append, waits-counted}
+use Rattle.report.proofs.Laws.Events.{Underway, Books, books as booksEvent, underway}
+
+-- ---- a session that is open
+
+-- an opening that is not refused
+opening-is : (t : Tally) (v : Setup) → openNumber t v ≡ 0
+    → opening t v ≡ record {
+      tally = record { taken = true; setup = v; figures = t .figures };
+      opened = record { number = 0; after = opened (fresh v) };
+    }
+unfolding opening
+opening-is t v z = rw (eq-eqb (openNumber t v) 0 z)
+
+opens-setup : (t : Tally) (v : Setup) → openNumber t v ≡ 0 → setupNumber v ≡ 0
+unfolding openNumber
+opens-setup t v = go (eqb (setupNumber v) 0) refl
+  where
+    go : (b : Bool) → eqb (setupNumber v) 0 ≡ b → cond b (cond (t .taken && not (sameSetup (t .setup) v)) 40 0) (setupNumber v) ≡ 0 → setupNumber v ≡ 0
+    go true e z = eqb-true (setupNumber v) 0 e
+    go false e z = z
+
+fresh-underway : (v : Setup) → setupNumber v ≡ 0 → Underway (opened (fresh v)) []
+unfolding hadWaited
+fresh-underway v good = record {
+  start = fresh v;
+  starts = fresh-starts byPriority v good;
+  run = startsRun;
+  size = length-replicate 64 false;
+  waited = λ i l. getD-replicate 64 i false false l;
+}
+
+session : {u : Setup} {start : List ℕ} {t : Tally} {row : List ℕ} {o : OpenSession} {calls : List Call} {earlier : List (List Call)}
+    → Reported u start t row o (calls ∷ earlier) → Underway o calls
+unfolding booking
+session (opens {t = t} r v z) = rw (opening-is t v z) (fresh-underway v (opens-setup t v z))
+session (books {o = o} {calls = calls} r e) = underway o calls (session r) e
+
+-- ---- what is booked
+
+-- the tally and the row are those of what is booked, and it fits
+record Holds (start : List ℕ) (t : Tally) (row : List ℕ) (booked : List Item) : Type 0 where
+  agree : Agree (t .figures) booked
+  numbered : Numbered booked
+  fits : fitting booked ≡ true
+  row-is : row ≡ written start 0 (waitsIn booked)
+
+empty-holds : (u : Setup) (start : List ℕ) → Holds start (emptyTally u) start []
+unfolding emptyTally figuresOf total greatest fitting waitsIn written
+empty-holds u start = record {
+  agree = record { size = length-replicate 64 noFigures; each = λ i l. getD-replicate 64 i noFigures noFigures l };
+  numbered = none;
+  fits = all-from 64 (λ i. totalsFit noFigures) (λ i l. refl);
+  row-is = refl;
+}
+
+module _ (start : List ℕ) (t : Tally) (row : List ℕ) (o : OpenSession) (calls : List Call) (earlier : List (List Call)) (p : Underway o calls)
+    (holds : Holds start t row (ledger (calls ∷ earlier))) (e : Event) where
+  abbrev a : Answer
+  a = step byPriority (o .session) e
+
+  abbrev booked : List Item
+  booked = ledger (calls ∷ earlier)
+
+  abbrev new : List Item
+  new = booksOf (heard e a) calls
+
+  event : Books o calls e a
+  event = booksEvent o calls p e
+
+  -- 41 is tried item by item, and is what is asked of the totals
+  tried : enterable (t .figures) (items o e a) ≡ fitting (booked ++ new)
+  tried = rw (event .same) (enterable-fitting (holds .agree) (event .numbered) (holds .fits))
+
+  -- the event is booked with all of its items, or with none
+  abbrev Outcome : Bool → List Item → Type 0
+  Outcome is booked′ = ((is ≡ true) × (booked′ ≡ booked ++ new) × (fitting (booked ++ new) ≡ true)) ⊎ ((is ≡ false) × (booked′ ≡ booked))
+
+  outcome : Outcome (eqb (bookNumber t o e) 0) (ledger ((heard e a ∷ calls) ∷ earlier))
+  unfolding bookNumber ledger bookedBy bookedWith
+  outcome = rw tried (go (eqb (number (a .said)) 0) refl (fitting (booked ++ new)) refl)
+    where
+      go : (accepts : Bool) → eqb (number (a .said)) 0 ≡ accepts → (f : Bool) → fitting (booked ++ new) ≡ f
+          → Outcome (eqb (cond accepts (cond f 0 41) (number (a .said))) 0) (cond f (booked ++ new) booked)
+      go true z true f = inl (refl, refl, f)
+      go true z false f = inr (refl, refl)
+      go false z true f = inr (z, rw (event .idle z) (append-nil booked))
+      go false z false f = inr (z, refl)
+
+  holds-on : Holds start (booking t o e .tally) (rowAfter t o e row) (ledger ((heard e a ∷ calls) ∷ earlier))
+  unfolding booking rowAfter
+  holds-on = go outcome
+    where
+      go : {is : Bool} {booked′ : List Item} → Outcome is booked′
+          → Holds start (cond is (withFigures t (entered (t .figures) (items o e a))) t)
+          (cond is (written row (waitsBooked (t .figures)) (waitsIn (items o e a))) row) booked′
+      go (inl q) = rw (q .0, q .1, event .same) (record {
+        agree = entered-agree (holds .agree) (event .numbered);
+        numbered = numbered-append (holds .numbered) (event .numbered);
+        fits = q .2;
+        row-is = rw (holds .row-is, waits-counted (holds .agree) (holds .numbered), waits-append booked new, written-append start 0 (waitsIn booked) (waitsIn new), zero-add);
+      })
+      go (inr q) = rw (q .0, q .1) holds
+
+holds : {u : Setup} {start : List ℕ} {t : Tally} {row : List ℕ} {o : OpenSession} {sessions : List (List Call)} → Reported u start t row o sessions
+    → Holds start t row (ledger sessions)
+unfolding ledger bookedBy booking
+holds {u} {start} begun = empty-holds u start
+holds (opens {t = t} r v z) =
+    let h = holds r in
+    rw (opening-is t v z) (record { agree = h .agree; numbered = h .numbered; fits = h .fits; row-is = h .row-is })
+holds {start = start} (books {t = t} {row = row} {o = o} {calls = calls} {earlier = earlier} r e) =
+    holds-on start t row o calls earlier (session r) (holds r) e
+
+-- ---- the theorem
+
+pub figures-are : FiguresAre
+figures-are u start t row o sessions r = holds r .agree .each
+
+pub row-is : RowIs
+row-is u start t row o sessions r = holds r .row-is
+
+pub left-out : LeftOut
+unfolding booking bookNumber
+left-out u start t row o calls earlier r e =
+    let n = number (step byPriority (o .session) e .said) in
+    ap (λ (f : Bool). cond (eqb n 0) (cond f 0 41) n) (tried start t row o calls earlier (session r) (holds r) e)
+
+-- the waits that the figures have, of all tasks, are as many as are booked
+pub waits-booked : InEveryReport (λ start t row o sessions. waitsBooked (t .figures) ≡ length (waitsIn (ledger sessions)))
+waits-booked u start t row o sessions r = waits-counted (holds r .agree) (holds r .numbered)

@@ -1,15 +1,16 @@
 -- The theorem: an induction over the sessions. While a session is open its calls are a run, so that each event books what history says of it; and what is booked keeps
 -- the figures, the row and that every total fits.
 use Prim.Native.Nat.{ℕ}
-use mathlib.Core.Path.{_≡_, refl, ap}
+use mathlib.Core.Path.{_≡_, refl, sym, ap, ap₂, _∙_}
 use mathlib.Core.Logic.{_⊎_, inl, inr}
 use mathlib.Core.List.{List, [], _∷_, _++_, append-nil}
 use mathlib.Core.Bool.{Bool, true, false, cond, not, _&&_}
 use native.Mathlib.Nat.{zero-add}
 use lib.Dec.{eqb}
-use lib.ListN.{length, length-replicate, getD-replicate}
+use lib.ListN.{length, take, length-replicate, getD-replicate}
 use borrow.Author.Tests.{eq-eqb, eqb-true}
 use Rattle.objects.proofs.Laws.Below.{all-from}
+use Rattle.rising.specs.Order.{inRising}
 use Rattle.rules.specs.declared.Setup.{Setup}
 use Rattle.rules.specs.declared.Event.{Event}
 use Rattle.rules.specs.declared.Answer.{Answer}
@@ -24,10 +25,13 @@ use Rattle.report.specs.declared.Tally.{Tally}
 use Rattle.report.specs.declared.OpenSession.{OpenSession}
 use Rattle.report.specs.Items.{Item, noFigures, entered, enterable, waitsBooked, waitsIn, written}
 use Rattle.report.specs.Booking.{emptyTally, opened, openNumber, opening, items, bookNumber, withFigures, booking, rowAfter}
-use Rattle.report.specs.Ledger.{hadWaited, booksOf, total, greatest, figuresOf, totalsFit, fitting, bookedWith, bookedBy, ledger}
-use Rattle.report.specs.Report.{Reported, begun, opens, books, InEveryReport, FiguresAre, RowIs, LeftOut}
+use Rattle.report.specs.Ledger.{hadWaited, booksOf, total, greatest, figuresOf, totalsFit, fitting, bookedWith, bookedBy, ledger, lastOf}
+use Rattle.report.specs.Sheet.{keptOf, middlePlace, ninePlace, keptIn, middle, nineTenths, lastWaits, middleOf, nineTenthsOf}
+use Rattle.report.specs.Row.{SameNumbers}
+use Rattle.report.specs.Report.{Reported, begun, opens, books, InEveryReport, FiguresAre, RowIs, LeftOut, MiddleIs, NineTenthsIs}
 use Rattle.report.proofs.Laws.Entering.{Numbered, none, numbered-append, Agree, entered-agree, enterable-fitting}
 use Rattle.report.proofs.Laws.Writing.{waits-append, written-append, waits-counted}
+use Rattle.report.proofs.Laws.Row.{row-places, last-k}
 use Rattle.report.proofs.Laws.Events.{Underway, Books, books as booksEvent, underway}
 
 -- ---- a session that is open
@@ -158,3 +162,35 @@ left-out u start t row o calls earlier r e =
 -- the waits that the figures have, of all tasks, are as many as are booked
 pub waits-booked : InEveryReport (λ start t row o sessions. waitsBooked (t .figures) ≡ length (waitsIn (ledger sessions)))
 waits-booked u start t row o sessions r = waits-counted (holds r .agree) (holds r .numbered)
+
+-- the number at a place that goes by k: the row's first k are, in rising order, the last k waits
+at-place : (place : ℕ → ℕ)
+    → InEveryReport (λ start t row o sessions.
+    inRising (place (keptIn (t .figures) row)) (take (keptIn (t .figures) row) row)
+    ≡ inRising (place (length (lastWaits (length start) (ledger sessions)))) (lastWaits (length start) (ledger sessions)))
+at-place place u start t row o sessions r =
+    ap (λ (k : ℕ). inRising (place k) (take k row)) kept ∙ ap (λ (xs : List ℕ). inRising (place k) (take k xs)) (row-is u start t row o sessions r)
+    ∙ same .places (place k) ∙ ap (λ (n : ℕ). inRising (place n) (lastOf k waits)) (sym (same .sizes))
+  where
+    waits : List ℕ
+    waits = waitsIn (ledger sessions)
+
+    k : ℕ
+    k = keptOf (length start) (length waits)
+
+    same : SameNumbers k (take k (written start 0 waits)) (lastOf k waits)
+    same = last-k start waits
+
+    size : length row ≡ length start
+    size = ap (λ (xs : List ℕ). length xs) (row-is u start t row o sessions r) ∙ row-places start waits .size
+
+    kept : keptIn (t .figures) row ≡ k
+    kept = ap₂ (λ (places booked : ℕ). keptOf places booked) size (waits-booked u start t row o sessions r)
+
+pub middle-is : MiddleIs
+unfolding middle middleOf
+middle-is = at-place middlePlace
+
+pub nine-tenths-is : NineTenthsIs
+unfolding nineTenths nineTenthsOf
+nine-tenths-is = at-place ninePlace

@@ -29,29 +29,13 @@ use Rattle.report.specs.Ledger.{hadWaited, booksOf, total, greatest, fig
 use Rattle.report.specs.Sheet.{keptOf, middlePlace, ninePlace, keptIn, middle, nineTenths, lastWaits, middleOf, nineTenthsOf}
 use Rattle.report.specs.Row.{SameNumbers}
 use Rattle.report.specs.Report.{Reported, begun, opens, books, InEveryReport, FiguresAre, RowIs, LeftOut, MiddleIs, NineTenthsIs}
+use Rattle.report.proofs.Laws.Opening.{opening-is, opens-setup}
 use Rattle.report.proofs.Laws.Entering.{Numbered, none, numbered-append, Agree, entered-agree, enterable-fitting}
 use Rattle.report.proofs.Laws.Writing.{waits-append, written-append, waits-counted}
 use Rattle.report.proofs.Laws.Row.{row-places, last-k}
 use Rattle.report.proofs.Laws.Events.{Underway, Books, books as booksEvent, underway}
 
 -- ---- a session that is open
-
--- an opening that is not refused
-opening-is : (t : Tally) (v : Setup) → openNumber t v ≡ 0
-    → opening t v ≡ record {
-      tally = record { taken = true; setup = v; figures = t .figures };
-      opened = record { number = 0; after = opened (fresh v) };
-    }
-unfolding opening
-opening-is t v z = rw (eq-eqb (openNumber t v) 0 z)
-
-opens-setup : (t : Tally) (v : Setup) → openNumber t v ≡ 0 → setupNumber v ≡ 0
-unfolding openNumber
-opens-setup t v = go (eqb (setupNumber v) 0) refl
-  where
-    go : (b : Bool) → eqb (setupNumber v) 0 ≡ b → cond b (cond (t .taken && not (sameSetup (t .setup) v)) 40 0) (setupNumber v) ≡ 0 → setupNumber v ≡ 0
-    go true e z = eqb-true (setupNumber v) 0 e
-    go false e z = z
 
 fresh-underway : (v : Setup) → setupNumber v ≡ 0 → Underway (opened (fresh v)) []
 unfolding hadWaited

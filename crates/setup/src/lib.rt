@@ -1,6 +1,6 @@
 // A setup: the number that refuses it, when two are equal, and the session that it starts.
 ghost use mathlib.Core.Path.{_≡_};
-ghost use Rattle.rules.specs.Setup.{termsNumber, setupNumber, sameTerms, sameSetup, quiet, start};
+ghost use Rattle.rules.specs.Setup.{termsNumber, setupNumber, sameTerms, sameSetup, quiet, noSession, start};
 use rules::Arrival;
 use rules::Said;
 use rules::Session;
@@ -104,6 +104,23 @@ pub fn setup(u: Setup) -> Started
         said: Said::Ok,
         session: quiet_session(u.m, u.n, tasks),
     }
+}
+
+// What stands in the place of a session where a setup is refused.
+pub fn no_session() -> Session
+    ensures { λ s. ⌜ s ≡ noSession ⌝ }
+{
+    let none = Terms {
+        priority: 0,
+        period: 0,
+        transactions: 0,
+    };
+    let refused = setup(Setup {
+        m: 0,
+        n: 0,
+        terms: [none; 64],
+    });
+    refused.session
 }
 
 fn same_terms(t: Terms, other: Terms) -> bool

@@ -1,3 +1,5 @@
 pub mod Counted
 pub mod Entered
 pub mod Rows
+pub mod Inside
+pub mod Booked

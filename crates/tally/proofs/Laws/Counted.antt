@@ -5,6 +5,7 @@ use mathlib.Core.Bool.{Bool, true, false, cond}
 use Rattle.report.specs.declared.Figures.{Figures}
 use Rattle.report.specs.Items.{Item, within, after, fits}
 use Rattle.tally.specs.declared.item.Sum.{Sum}
+use Rattle.tally.specs.declared.item.Counted.{Counted}
 use Rattle.tally.specs.Parts.{added, countedBy, counted, passing}
 
 -- a total fits, or not, as its sum says
@@ -22,3 +23,9 @@ passes f x e = sym (ap (λ (b : Bool). countedBy b f x) e)
 
 pub enters : (f : Figures) (x : Item) → fits f x ≡ true → countedBy true f x ≡ counted f x
 enters f x e = sym (ap (λ (b : Bool). countedBy b f x) e)
+
+-- and then the figures are those with it
+pub counted-is : (f : Figures) (x : Item) (made : Counted) → made ≡ counted f x → made .fits ≡ true → made .figures ≡ after f x
+counted-is f x made is q =
+    ap (λ (c : Counted). c .figures) is
+    ∙ ap (λ (b : Bool). cond b (after f x) f) (sym (ap (λ (c : Counted). c .fits) is) ∙ q)

@@ -29,7 +29,7 @@ cast-total : tie.Need-cast-total Inv-loop μ-loop
 cast-total c = search needs
 
 add-total : tie.Need-add-total Inv-loop μ-loop
-add-total c = ?
+add-total c = omega arith
 
 add-i : tie.Need-add-i Inv-loop μ-loop
 add-i c = omega arith

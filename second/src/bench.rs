@@ -3,13 +3,14 @@
 use std::ffi::OsString;
 use std::fs::{self, File};
 use std::io::{self, Write};
-use std::path::{Path, PathBuf};
+use std::path::Path;
 use std::process::{Command, Stdio};
 use std::time::{Duration, Instant};
 
-use crate::compare::cannot_start;
 use crate::damage::make;
+use crate::folder::Folder;
 use crate::lines::replay;
+use crate::other::cannot_start;
 use crate::random::Size;
 use crate::rules::Answer;
 
@@ -18,24 +19,6 @@ const BOXES: [(u8, u8); 2] = [(16, 64), (2, 4)];
 /// The lengths of the logs, each with how many runs are made to find the quickest.
 const LENGTHS: [(u32, u32); 3] = [(10_000, 10), (100_000, 5), (1_000_000, 3)];
 const SEED: u64 = 1;
-
-/// A folder for the logs, removed at the end.
-struct Folder(PathBuf);
-
-impl Folder {
-    fn new() -> io::Result<Folder> {
-        let name = format!("second-bench-{}", std::process::id());
-        let folder = Folder(std::env::temp_dir().join(name));
-        fs::create_dir(&folder.0)?;
-        Ok(folder)
-    }
-}
-
-impl Drop for Folder {
-    fn drop(&mut self) {
-        let _ = fs::remove_dir_all(&self.0);
-    }
-}
 
 /// The least times of both programs for one log.
 struct Times {
@@ -48,7 +31,7 @@ struct Times {
 /// False, and no more of the table, if their lines differ.
 pub fn bench(program: &[OsString], report: &mut impl Write) -> io::Result<bool> {
     let this = [std::env::current_exe()?.into_os_string(), "replay".into()];
-    let folder = Folder::new()?;
+    let folder = Folder::new("bench")?;
     let mut growth = Vec::new();
     let columns = "  m  n    events  accepted  waited  this ev/s  other ev/s  other/this";
     writeln!(report, "{columns}")?;
@@ -56,7 +39,7 @@ pub fn bench(program: &[OsString], report: &mut impl Write) -> io::Result<bool> 
         let mut all_times = Vec::new();
         for (events, runs) in LENGTHS {
             let size = Size::new(m, n, events);
-            let log = folder.0.join(format!("{m}-{n}-{events}"));
+            let log = folder.path().join(format!("{m}-{n}-{events}"));
             fs::write(&log, make(SEED, "busy", size).unwrap_or_default())?;
             if lines_of(&this, &log)? != lines_of(program, &log)? {
                 writeln!(report, "m {m}, n {n}, {events} events: the lines differ")?;

@@ -2,41 +2,31 @@
 
 use std::ffi::OsString;
 use std::io::{self, Write};
-use std::process::{ChildStdin, Command, Stdio};
-use std::thread;
-use std::time::Duration;
+use std::process::Stdio;
 
 use crate::damage::{make, DAMAGES};
 use crate::lines::replay;
 use crate::log::{Fault, LogReader};
+use crate::log_counts::LogCounts;
+use crate::other::{first_difference, said_by, Feeding};
 use crate::random::Size;
 use crate::rules::Refusal;
-use crate::tally::Tally;
+use crate::score::Score;
 use crate::text::{log_of_text, text_of_log};
 use crate::vectors::{BAD_TEXTS, SESSIONS};
 
 /// How many logs of each kind of damage there are.
 const DAMAGED_SEEDS: usize = 40;
 
-/// How the bytes of a log are given to the other program.
-#[derive(Clone, Copy)]
-enum Feeding {
-    AtOnce,
-    /// In pieces of so many bytes, with a pause after each.
-    InPieces(usize),
-}
-
 /// Compares on every log, and prints what failed, the counts, and a last line of sums.
 /// True if nothing failed.
 pub fn compare(program: &[OsString], report: &mut impl Write) -> io::Result<bool> {
     let mut comparison = Comparison {
         program,
-        report,
-        tally: Tally::default(),
+        score: Score::new(report),
+        counts: LogCounts::default(),
         logs: 0,
         round_trips: 0,
-        passed: 0,
-        failed: 0,
     };
     comparison.sessions()?;
     comparison.cuts()?;
@@ -49,12 +39,10 @@ pub fn compare(program: &[OsString], report: &mut impl Write) -> io::Result<bool
 
 struct Comparison<'a, W> {
     program: &'a [OsString],
-    report: W,
-    tally: Tally,
+    score: Score<W>,
+    counts: LogCounts,
     logs: u64,
     round_trips: u64,
-    passed: u64,
-    failed: u64,
 }
 
 impl<W: Write> Comparison<'_, W> {
@@ -64,14 +52,14 @@ impl<W: Write> Comparison<'_, W> {
             match log_of_text(session.text.as_bytes()) {
                 Err(error) => {
                     let what = format!("{}: line {}: {}", session.name, error.line, error.what);
-                    self.book(false, &what)?;
+                    self.score.book(false, &what)?;
                 }
                 Ok(log) => {
                     let mut lines = Vec::new();
                     replay(&log[..], &mut lines, |_, _| {})?;
                     let what = first_difference(&lines, session.lines.as_bytes());
                     let what = format!("{}: not the lines written down\n{what}", session.name);
-                    self.book(lines == session.lines.as_bytes(), &what)?;
+                    self.score.book(lines == session.lines.as_bytes(), &what)?;
                     self.log(session.name, &log, Feeding::AtOnce)?;
                 }
             }
@@ -144,7 +132,7 @@ impl<W: Write> Comparison<'_, W> {
         let name = format!("make {seed} {kind} {events} {processors} {tasks}");
         match make(seed, kind, size) {
             Some(log) => self.log(&name, &log, feeding),
-            None => self.book(false, &format!("{name}: no such kind")),
+            None => self.score.book(false, &format!("{name}: no such kind")),
         }
     }
 
@@ -152,23 +140,26 @@ impl<W: Write> Comparison<'_, W> {
     fn log(&mut self, name: &str, log: &[u8], feeding: Feeding) -> io::Result<()> {
         self.logs += 1;
         if let Ok((setup, _)) = LogReader::open(log) {
-            self.tally.book_setup(&setup);
+            self.counts.book_setup(&setup);
         }
         let mut lines = Vec::new();
-        let tally = &mut self.tally;
+        let counts = &mut self.counts;
         let bad = replay(log, &mut lines, |session, reply| {
-            tally.book_event(session, reply)
+            counts.book_event(session, reply)
         })?;
         if let Some(refusal) = bad {
-            self.tally.book_bad_log(refusal);
+            self.counts.book_bad_log(refusal);
         }
-        match lines_of(self.program, log, feeding)? {
-            None => self.book(false, &format!("{name}: the other program was killed"))?,
-            Some(others) if others != lines => {
-                let what = first_difference(&lines, &others);
-                self.book(false, &format!("{name}{}\n{what}", feeding.in_words()))?;
+        match said_by(self.program, &[], log, feeding, Stdio::inherit())? {
+            None => self
+                .score
+                .book(false, &format!("{name}: the other program was killed"))?,
+            Some(said) if said.output != lines => {
+                let what = first_difference(&lines, &said.output);
+                self.score
+                    .book(false, &format!("{name}{}\n{what}", feeding.in_words()))?;
             }
-            Some(_) => self.book(true, "")?,
+            Some(_) => self.score.book(true, "")?,
         }
         self.round_trip(name, log, bad)
     }
@@ -181,7 +172,7 @@ impl<W: Write> Comparison<'_, W> {
             (Err(Fault::Bad(found)), Some(expected)) => found == expected,
             _ => false,
         };
-        self.book(passed, &format!("{name}: text and back"))
+        self.score.book(passed, &format!("{name}: text and back"))
     }
 
     /// Texts that have no log, each refused in the right line.
@@ -189,113 +180,24 @@ impl<W: Write> Comparison<'_, W> {
         for (line, text) in BAD_TEXTS {
             let found = log_of_text(text.as_bytes()).err().map(|error| error.line);
             let what = format!("text refused in line {line}, not {found:?}:\n{text}");
-            self.book(found == Some(line), &what)?;
+            self.score.book(found == Some(line), &what)?;
         }
         Ok(())
     }
 
-    fn book(&mut self, passed: bool, what: &str) -> io::Result<()> {
-        if passed {
-            self.passed += 1;
-            Ok(())
-        } else {
-            self.failed += 1;
-            writeln!(self.report, "FAILED {what}")
-        }
-    }
-
     /// Prints the counts, holds them to what must have come up, and prints the last line.
     fn sums(mut self) -> io::Result<bool> {
-        self.tally.print(&mut self.report)?;
-        for (what, count, least) in self.tally.must_come_up() {
-            self.book(count >= least, &format!("{what}: came up {count} times"))?;
-        }
-        for (what, count) in self.tally.must_not_come_up() {
-            self.book(count == 0, &format!("{what}: came up {count} times"))?;
+        self.counts.print(&mut self.score.report)?;
+        self.score.book_classes(&self.counts.must_come_up())?;
+        for (what, count) in self.counts.must_not_come_up() {
+            let what = format!("{what}: came up {count} times");
+            self.score.book(count == 0, &what)?;
         }
         writeln!(
-            self.report,
+            self.score.report,
             "{} logs compared, {} round trips",
             self.logs, self.round_trips
         )?;
-        writeln!(
-            self.report,
-            "{} passed, {} failed",
-            self.passed, self.failed
-        )?;
-        self.report.flush()?;
-        Ok(self.failed == 0)
-    }
-}
-
-impl Feeding {
-    fn in_words(self) -> String {
-        match self {
-            Feeding::AtOnce => String::new(),
-            Feeding::InPieces(bytes) => format!(", in pieces of {bytes}"),
-        }
-    }
-
-    /// Gives a log to a program. One that stops reading early is no fault of the feeding.
-    fn feed(self, mut pipe: ChildStdin, log: &[u8]) {
-        match self {
-            Feeding::AtOnce => {
-                let _ = pipe.write_all(log);
-            }
-            Feeding::InPieces(bytes) => {
-                for piece in log.chunks(bytes) {
-                    if pipe.write_all(piece).and_then(|()| pipe.flush()).is_err() {
-                        return;
-                    }
-                    thread::sleep(Duration::from_micros(20));
-                }
-            }
-        }
-    }
-}
-
-/// What the other program writes for a log; nothing if a signal ended it.
-fn lines_of(program: &[OsString], log: &[u8], feeding: Feeding) -> io::Result<Option<Vec<u8>>> {
-    let mut command = Command::new(&program[0]);
-    command
-        .args(&program[1..])
-        .stdin(Stdio::piped())
-        .stdout(Stdio::piped());
-    let mut child = command
-        .spawn()
-        .map_err(|error| cannot_start(program, error))?;
-    let pipe = child.stdin.take();
-    let output = thread::scope(|scope| {
-        // The log goes in from another thread, so that neither pipe can fill up and block.
-        scope.spawn(move || pipe.map(|pipe| feeding.feed(pipe, log)));
-        child.wait_with_output()
-    })?;
-    Ok(output.status.code().map(|_| output.stdout))
-}
-
-pub fn cannot_start(program: &[OsString], error: io::Error) -> io::Error {
-    let what = format!("cannot start {}: {error}", program[0].to_string_lossy());
-    io::Error::new(error.kind(), what)
-}
-
-/// The first line in which two outputs differ, as each has it.
-fn first_difference(ours: &[u8], others: &[u8]) -> String {
-    let mut our_lines = ours.split_inclusive(|byte| *byte == b'\n');
-    let mut other_lines = others.split_inclusive(|byte| *byte == b'\n');
-    let mut number = 0;
-    loop {
-        number += 1;
-        let (our_line, other_line) = (our_lines.next(), other_lines.next());
-        if our_line != other_line || our_line.is_none() {
-            let (ours, others) = (in_quotes(our_line), in_quotes(other_line));
-            return format!("  line {number}, this program: {ours}\n  the other: {others}");
-        }
-    }
-}
-
-fn in_quotes(line: Option<&[u8]>) -> String {
-    match line {
-        Some(line) => format!("{:?}", String::from_utf8_lossy(line)),
-        None => "nothing more".to_string(),
+        self.score.last_line()
     }
 }

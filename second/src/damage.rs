@@ -54,7 +54,7 @@ pub fn make(seed: u64, kind: &str, size: Size) -> Option<Vec<u8>> {
 }
 
 /// Where each record of a log starts, as far as its lengths can be followed.
-fn record_starts(log: &[u8]) -> Vec<usize> {
+pub fn record_starts(log: &[u8]) -> Vec<usize> {
     let mut starts = Vec::new();
     let mut place = 0;
     while place + HEAD <= log.len() {

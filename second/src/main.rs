@@ -1,5 +1,6 @@
-//! An independent reading of document 01: its rules, its log and its replay lines, written from
-//! that document alone, to be compared with another program that follows it.
+//! An independent reading of document 01, its rules, its log and its replay lines, and of request
+//! CR 1 in document 02, the report; written from these documents alone, to be compared with other
+//! programs that follow them.
 //!
 //! Subcommands:
 //!
@@ -9,29 +10,48 @@
 //! - `second make SEED KIND [EVENTS [M N]] > LOG` makes a random log.
 //! - `second compare PROGRAM [ARGS...]` compares another replay program with this one.
 //! - `second bench PROGRAM [ARGS...]` times another replay program against this one.
+//! - `second report [LOG...]` prints the sheet over these logs, or over the one on standard input.
+//! - `second season SEED KIND FOLDER` makes a random list of logs for a report, in that folder.
+//! - `second sheets PROGRAM [ARGS...]` compares another report program with this one.
 //!
 //! To read it in order: `rules` (sessions and events), `log` (records), `lines` (the replay),
-//! `text`; then `random` and `damage` (logs to try), `vectors` (sessions written down), `tally`,
-//! `compare` and `bench`.
+//! `text`; `tally` (what an event books) and `report` (the sheet); then what both comparisons
+//! need: `random`, `damage` and `seasons` (logs to try), `other` (the other program), `counts`,
+//! `score` and `folder`; then the replay's: `vectors` (sessions written down), `log_counts`,
+//! `compare` and `bench`; then the report's: `sheet_vectors` (lists written down), `sheet_counts`
+//! and `sheets`.
 
 mod bench;
 mod compare;
+mod counts;
 mod damage;
+mod folder;
 mod lines;
 mod log;
+mod log_counts;
+mod other;
 mod random;
+mod report;
 mod rules;
+mod score;
+mod seasons;
+mod sheet_counts;
+mod sheet_vectors;
+mod sheets;
 mod tally;
 mod text;
 mod vectors;
 
 use std::ffi::OsString;
+use std::fs;
 use std::io::{self, BufReader, BufWriter, ErrorKind, Read, Write};
+use std::path::Path;
 use std::process::ExitCode;
 use std::str::FromStr;
 
 use crate::log::Fault;
 use crate::random::Size;
+use crate::report::Trouble;
 
 const BUFFER: usize = 1 << 16;
 
@@ -58,6 +78,11 @@ fn run(arguments: &[OsString]) -> io::Result<ExitCode> {
         ["bench", ..] if arguments.len() > 1 => {
             bench::bench(&arguments[1..], &mut io::stdout().lock()).map(verdict)
         }
+        ["report", ..] => report(&arguments[1..]),
+        ["season", seed, kind, folder] => make_season(seed, kind, folder),
+        ["sheets", ..] if arguments.len() > 1 => {
+            sheets::sheets(&arguments[1..], &mut io::stdout().lock()).map(verdict)
+        }
         _ => Ok(usage()),
     }
 }
@@ -78,20 +103,23 @@ fn fail(what: &str) -> ExitCode {
 }
 
 fn usage() -> ExitCode {
-    let kinds: Vec<&str> = damage::DAMAGES.iter().map(|(name, _)| *name).collect();
+    let damages = damage::DAMAGES.map(|(name, _)| name).join(" ");
+    let good = seasons::GOOD.map(|(name, _)| name).join(" ");
+    let other_setups = seasons::OTHER_SETUPS.map(|(name, _)| name).join(" ");
     let text = "\
 second replay < LOG
 second log < TEXT > LOG
 second text < LOG > TEXT
 second make SEED KIND [EVENTS [M N]] > LOG
 second compare PROGRAM [ARGS...]
-second bench PROGRAM [ARGS...]";
-    let _ = writeln!(io::stderr(), "{text}");
-    let _ = writeln!(
-        io::stderr(),
-        "KIND: good busy full flock {}",
-        kinds.join(" ")
-    );
+second bench PROGRAM [ARGS...]
+second report [LOG...]
+second season SEED KIND FOLDER
+second sheets PROGRAM [ARGS...]";
+    let mut errors = io::stderr();
+    let _ = writeln!(errors, "{text}");
+    let _ = writeln!(errors, "KIND of a log: good busy full flock {damages}");
+    let _ = writeln!(errors, "KIND of a season: {good} {other_setups} {damages}");
     ExitCode::from(2)
 }
 
@@ -133,6 +161,24 @@ fn text_of_log() -> io::Result<ExitCode> {
     }
 }
 
+/// With no name, the log is standard input.
+fn report(names: &[OsString]) -> io::Result<ExitCode> {
+    let sheet = match names {
+        [] => report::sheet_of_input(input(), &mut ()),
+        _ => report::sheet_of_files(names, &mut ()),
+    };
+    match sheet {
+        Ok(sheet) => print(sheet.as_bytes()),
+        Err(Trouble::Bad(refusal, name)) => print(&report::bad_line(refusal, &name)),
+        Err(Trouble::Unreadable(error, name)) => {
+            let mut line = name.into_encoded_bytes();
+            line.extend(format!(": {error}\n").into_bytes());
+            let _ = io::stderr().write_all(&line);
+            Ok(ExitCode::FAILURE)
+        }
+    }
+}
+
 fn make(seed: &str, kind: &str, size: &[&str]) -> io::Result<ExitCode> {
     let log = make_of_words(seed, kind, size);
     log.map_or_else(|| Ok(usage()), |log| print(&log))
@@ -154,6 +200,18 @@ fn make_of_words(seed: &str, kind: &str, words: &[&str]) -> Option<Vec<u8>> {
         _ => return None,
     }
     damage::make(seed, kind, size)
+}
+
+/// Writes the logs of a season as 1.log, 2.log and so on.
+fn make_season(seed: &str, kind: &str, folder: &str) -> io::Result<ExitCode> {
+    let logs = number(seed, 0, u64::MAX).and_then(|seed| seasons::season(seed, kind));
+    let Some(logs) = logs else {
+        return Ok(usage());
+    };
+    for (number, log) in (1..).zip(logs) {
+        fs::write(Path::new(folder).join(format!("{number}.log")), log)?;
+    }
+    Ok(ExitCode::SUCCESS)
 }
 
 fn number<T: FromStr + PartialOrd>(word: &str, low: T, high: T) -> Option<T> {

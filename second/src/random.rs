@@ -81,6 +81,9 @@ impl Size {
     }
 }
 
+/// The most ticks of a leap.
+const LEAPS: [u32; 3] = [1 << 20, 1 << 28, 1 << 31];
+
 /// How the tasks of a log behave.
 struct Style {
     /// The objects that transactions are made of.
@@ -96,6 +99,8 @@ struct Style {
     wrong: u32,
     /// The most ticks from one event to the next.
     step: u32,
+    /// Of a hundred events, how many come after a leap of very many ticks.
+    leaps: u32,
     /// The tick of the first events.
     start: u32,
 }
@@ -113,7 +118,34 @@ impl Style {
             finish: random.pick(&[2, 10, 40]),
             wrong: random.pick(&[0, 5, 10, 40]),
             step: random.pick(&[0, 1, 2, 10, 1000]),
+            leaps: 0,
             start: random.pick(&[0, 0, 0, 1, 65_530, u32::MAX - 5000, u32::MAX - 20]),
+        }
+    }
+
+    /// Few objects that are mostly written, so that many transactions wait.
+    fn contended(random: &mut Random) -> Style {
+        let objects = random.between(1, 6) as u8;
+        Style {
+            objects: (0..objects).collect(),
+            most_reads: 2,
+            least_writes: random.below(2),
+            most_writes: random.pick(&[1, 2]),
+            write_all: random.pick(&[0, 10, 40]),
+            finish: random.pick(&[2, 10, 40]),
+            wrong: random.pick(&[0, 5, 20]),
+            step: random.pick(&[0, 1, 10, 1000]),
+            leaps: 0,
+            start: random.pick(&[0, 0, 7, u32::MAX - 5000]),
+        }
+    }
+
+    /// A contended style in which a few events come after a very long time.
+    fn long(random: &mut Random) -> Style {
+        Style {
+            leaps: random.pick(&[2, 5, 10]),
+            start: 0,
+            ..Style::contended(random)
         }
     }
 
@@ -129,6 +161,7 @@ impl Style {
             finish: 3,
             wrong: 1,
             step: 1,
+            leaps: 0,
             start: 0,
         }
     }
@@ -187,18 +220,95 @@ pub fn flock_log(random: &mut Random, size: Size) -> Vec<u8> {
     let style = Style::mixed(random);
     let setup = busy_setup(random, size);
     let mut maker = Maker::new(random, style, setup);
-    for task in 0..size.tasks {
-        let (reads, writes) = match task {
-            0 => (BTreeSet::new(), (0..=255).collect()),
-            _ => (BTreeSet::from([task]), BTreeSet::new()),
-        };
-        let release = Action::Release(Transaction { reads, writes });
-        maker.add(0, task, Action::Arrive);
-        maker.add(0, task, release);
-    }
-    maker.add(1, 0, Action::Commit);
+    maker.add_flock(0, 1);
     for _ in 0..size.events {
         maker.add_chosen_event();
+    }
+    maker.end()
+}
+
+/// How the tasks of one log of a season behave.
+#[derive(Clone, Copy)]
+pub enum Behaviour {
+    /// In any way.
+    Mixed,
+    /// Many wait.
+    Contended,
+    /// Many wait, and some of them very long.
+    Long,
+    /// First as in a flock log, with waits of any length, and then as in a long one.
+    Flock,
+}
+
+/// A good log of a given setup.
+pub fn log_of_setup(
+    random: &mut Random,
+    setup: &Setup,
+    events: u32,
+    behaviour: Behaviour,
+) -> Vec<u8> {
+    let style = match behaviour {
+        Behaviour::Mixed => Style::mixed(random),
+        Behaviour::Contended => Style::contended(random),
+        Behaviour::Long | Behaviour::Flock => Style::long(random),
+    };
+    let mut maker = Maker::new(random, style, setup.clone());
+    if let Behaviour::Flock = behaviour {
+        let apart = maker.random.pick(&[0, 1, 1000, 60_000_000]);
+        let commit = maker.random.between(64 * apart, u32::MAX);
+        maker.add_flock(apart, commit);
+    }
+    for _ in 0..events {
+        maker.add_chosen_event();
+    }
+    maker.end()
+}
+
+/// A setup for the logs of a season: every task has transactions, and jobs come soon again.
+pub fn season_setup(random: &mut Random, processors: u8, tasks: u8) -> Setup {
+    let most_priority = random.pick(&[1, 3, 65_535]);
+    let most_period = random.pick(&[1, 5, 50, 5000]);
+    let most_transactions = random.pick(&[2, 5, 255]);
+    let tasks = (0..tasks).map(|_| Task {
+        priority: random.up_to(most_priority) as u16,
+        period: random.up_to(most_period),
+        transactions: random.between(1, most_transactions) as u8,
+    });
+    Setup {
+        processors,
+        tasks: tasks.collect(),
+    }
+}
+
+/// A log with one wait after another, of these lengths in ticks. Tasks 1 and 2 wait in turn for
+/// task 0.
+pub fn log_of_waits(random: &mut Random, waits: &[u32]) -> Vec<u8> {
+    let task = Task {
+        priority: 1,
+        period: 1,
+        transactions: 1,
+    };
+    let setup = Setup {
+        processors: 3,
+        tasks: vec![task; 3],
+    };
+    let style = Style::contended(random);
+    let mut maker = Maker::new(random, style, setup);
+    let write = || {
+        let (reads, writes) = (BTreeSet::new(), BTreeSet::from([9]));
+        Action::Release(Transaction { reads, writes })
+    };
+    let mut tick = 0;
+    for (wait, second) in waits.iter().zip([1, 2].into_iter().cycle()) {
+        for task in [0, second] {
+            maker.add(tick, task, Action::Arrive);
+            maker.add(tick, task, write());
+        }
+        for task in [0, second] {
+            maker.add(tick + wait, task, Action::Commit);
+            maker.add(tick + wait, task, Action::Finish);
+        }
+        tick += wait + 1;
     }
     maker.end()
 }
@@ -258,6 +368,21 @@ impl Maker<'_> {
         self.add_event(event);
     }
 
+    /// Task 0 writes every object, the others release so many ticks apart, and task 0 commits.
+    fn add_flock(&mut self, apart: u32, commit: u32) {
+        for task in 0..self.session.setup().tasks.len() as u8 {
+            let (reads, writes) = match task {
+                0 => (BTreeSet::new(), (0..=255).collect()),
+                _ => (BTreeSet::from([task]), BTreeSet::new()),
+            };
+            let release = Action::Release(Transaction { reads, writes });
+            let tick = apart * u32::from(task);
+            self.add(tick, task, Action::Arrive);
+            self.add(tick, task, release);
+        }
+        self.add(commit, 0, Action::Commit);
+    }
+
     fn add(&mut self, tick: u32, task: u8, action: Action) {
         self.add_event(Event { tick, task, action });
     }
@@ -290,7 +415,13 @@ impl Maker<'_> {
     /// A tick not below the last one.
     fn tick(&mut self) -> u32 {
         let last = self.session.last_tick().max(self.style.start);
-        last.saturating_add(self.random.between(0, self.style.step))
+        let leaps = self.style.leaps > 0 && self.random.percent(self.style.leaps);
+        let most = if leaps {
+            self.random.pick(&LEAPS)
+        } else {
+            self.style.step
+        };
+        last.saturating_add(self.random.between(0, most))
     }
 
     fn task(&mut self) -> u8 {

@@ -10,7 +10,7 @@ pub const MOST_TASKS: usize = 64;
 pub const LONGEST_PERIOD: u32 = 86_400_000;
 pub const MOST_ACCEPTED: u32 = 1_000_000;
 
-/// Why an event, a setup or a record is refused. The values are the refusal numbers.
+/// Why an event, a setup, a record or a booking is refused. The values are the refusal numbers.
 /// Number 28 is missing: this program writes into memory that grows, so it has always room.
 #[derive(Clone, Copy, Debug, PartialEq, Eq)]
 pub enum Refusal {
@@ -33,6 +33,8 @@ pub enum Refusal {
     WrongCount = 25,
     BytesAfterEnd = 26,
     NoEnd = 27,
+    SetupsDiffer = 40,
+    TotalWouldPass = 41,
 }
 
 impl Refusal {

@@ -1,158 +1,201 @@
-//! Counts of what came up in the logs, by this program's own reading.
+//! The tally of a report: what each event books, and the figures of all that was booked.
+//!
+//! Every name here is a word of request CR 1 in document 02. The figures are kept wider than any
+//! total may be, so that one that would pass is seen plainly.
 
-use std::collections::BTreeMap;
-use std::io::{self, Write};
+use std::cmp::Reverse;
+use std::collections::{BTreeMap, BTreeSet, VecDeque};
 
-use crate::lines::Reply;
-use crate::rules::{Answer, Refusal, Session, Setup};
+use crate::rules::{Action, Answer, Event, Outcome, Refusal};
 
-/// The numbers that the replay of a log can give. 28 is for writers with a buffer of one size.
-const REFUSALS: [u8; 19] = [
-    1, 2, 3, 4, 5, 6, 7, 10, 11, 12, 13, 20, 21, 22, 23, 24, 25, 26, 27,
-];
+/// What a total may not pass.
+pub const MOST_TOTAL: u64 = 4_294_967_295;
+/// Over how many of the last waits the middle and the nine tenths are taken, at most.
+pub const LAST_WAITS: usize = 4096;
 
-const ANSWERS: [&str; 4] = ["ok", "run", "wait", "no"];
+/// What one event books: nothing, a commit, waits, or both.
+#[derive(Clone, Debug, Default, PartialEq, Eq)]
+pub struct Booking {
+    pub commit: Option<Commit>,
+    /// In the order of admission.
+    pub waits: Vec<Wait>,
+}
 
-type Counts<K> = BTreeMap<K, u64>;
+/// A transaction that commits, and whether it had waited.
+#[derive(Clone, Debug, PartialEq, Eq)]
+pub struct Commit {
+    pub task: u8,
+    pub waited: bool,
+}
 
+/// A wait that ends: from its release's tick to the tick of the event that admits it.
+#[derive(Clone, Debug, PartialEq, Eq)]
+pub struct Wait {
+    pub task: u8,
+    pub ticks: u64,
+    pub retries: u64,
+}
+
+/// What must be remembered of one session, so that its next event can be booked. It follows the
+/// session alone, and not what became of the bookings.
 #[derive(Default)]
+pub struct Memory {
+    /// The open waits: each waiting task with its release's tick.
+    open: BTreeMap<u8, u32>,
+    /// The executing tasks whose transaction had waited.
+    had_waited: BTreeSet<u8>,
+}
+
+impl Memory {
+    /// Follows an accepted event, and says what it books.
+    pub fn follow(&mut self, event: &Event, outcome: &Outcome) -> Booking {
+        let mut booking = Booking::default();
+        if matches!(outcome.answer, Answer::Wait { .. }) {
+            self.open.insert(event.task, event.tick);
+        }
+        if event.action == Action::Commit {
+            booking.commit = Some(Commit {
+                task: event.task,
+                waited: self.had_waited.remove(&event.task),
+            });
+        }
+        for admission in &outcome.admitted {
+            let task = admission.task;
+            let since = self
+                .open
+                .remove(&task)
+                .expect("only a waiting task is admitted");
+            self.had_waited.insert(task);
+            booking.waits.push(Wait {
+                task,
+                ticks: u64::from(event.tick - since),
+                retries: u64::from(admission.retries),
+            });
+        }
+        booking
+    }
+
+    /// How many waits are open.
+    pub fn open_waits(&self) -> usize {
+        self.open.len()
+    }
+}
+
+/// The figures of one task. All but the longest wait are totals.
+#[derive(Clone, Debug, Default)]
+pub struct Figures {
+    /// Transactions committed.
+    pub committed: u64,
+    /// How many of them had waited.
+    pub waited: u64,
+    /// Retries of the waits booked.
+    pub retries: u64,
+    /// The longest wait booked, in ticks.
+    pub longest: u64,
+    /// The mean wait as two whole numbers: ticks and waits.
+    pub ticks: u64,
+    pub waits: u64,
+}
+
+impl Figures {
+    fn add_commit(&mut self, commit: &Commit) {
+        self.committed += 1;
+        self.waited += u64::from(commit.waited);
+    }
+
+    pub fn add_wait(&mut self, wait: &Wait) {
+        self.retries += wait.retries;
+        self.longest = self.longest.max(wait.ticks);
+        self.ticks += wait.ticks;
+        self.waits += 1;
+    }
+
+    /// Whether some total has passed what it may be.
+    pub fn passes(&self) -> bool {
+        let totals = [
+            self.committed,
+            self.waited,
+            self.retries,
+            self.ticks,
+            self.waits,
+        ];
+        totals.iter().any(|total| *total > MOST_TOTAL)
+    }
+}
+
+/// All that was booked: the figures of each task, and the last waits of all tasks.
 pub struct Tally {
-    events: u64,
-    /// Events refused (1 to 7) and logs refused (10 upward), by number.
-    refusals: Counts<u8>,
-    /// Events by the word of their answer.
-    answers: Counts<&'static str>,
-    /// Accepted events by how many tasks they admitted.
-    admissions: Counts<usize>,
-    /// Admissions by retry count.
-    retries: Counts<u32>,
-    /// Events that admitted more than m tasks.
-    above_m: u64,
-    /// Accepted events after which some task waits for a processor only.
-    room_only: u64,
-    /// Logs with an allowed setup, by m and by n.
-    processors: Counts<usize>,
-    tasks: Counts<usize>,
-}
-
-fn add<K: Ord>(counts: &mut Counts<K>, key: K) {
-    *counts.entry(key).or_default() += 1;
-}
-
-fn count<K: Ord>(counts: &Counts<K>, key: K) -> u64 {
-    counts.get(&key).copied().unwrap_or(0)
-}
-
-/// How many were counted above a key.
-fn above<K: Ord>(counts: &Counts<K>, key: K) -> u64 {
-    counts
-        .iter()
-        .filter(|(found, _)| **found > key)
-        .map(|(_, count)| count)
-        .sum()
-}
-
-/// The least count of the keys from 1 to `last`.
-fn least(counts: &Counts<usize>, last: usize) -> u64 {
-    (1..=last).map(|key| count(counts, key)).min().unwrap_or(0)
+    tasks: Vec<Figures>,
+    /// In the order of admission, the last one at the back.
+    last_waits: VecDeque<u64>,
 }
 
 impl Tally {
-    pub fn book_setup(&mut self, setup: &Setup) {
-        add(&mut self.processors, usize::from(setup.processors));
-        add(&mut self.tasks, setup.tasks.len());
+    /// A tally with nothing booked.
+    pub fn new(tasks: usize) -> Tally {
+        Tally {
+            tasks: vec![Figures::default(); tasks],
+            last_waits: VecDeque::new(),
+        }
     }
 
-    pub fn book_bad_log(&mut self, refusal: Refusal) {
-        add(&mut self.refusals, refusal.number());
-    }
-
-    /// Books the reply to one event, with the session after it.
-    pub fn book_event(&mut self, session: &Session, reply: &Reply) {
-        self.events += 1;
-        match reply {
-            Err(refusal) => {
-                add(&mut self.refusals, refusal.number());
-                add(&mut self.answers, "no");
+    /// Books what one event books: all of it, or none if a total would pass (41).
+    pub fn book(&mut self, booking: &Booking) -> Result<(), Refusal> {
+        let mut tasks = self.tasks.clone();
+        if let Some(commit) = &booking.commit {
+            tasks[usize::from(commit.task)].add_commit(commit);
+        }
+        for wait in &booking.waits {
+            tasks[usize::from(wait.task)].add_wait(wait);
+        }
+        if tasks.iter().any(Figures::passes) {
+            return Err(Refusal::TotalWouldPass);
+        }
+        self.tasks = tasks;
+        for wait in &booking.waits {
+            self.last_waits.push_back(wait.ticks);
+            if self.last_waits.len() > LAST_WAITS {
+                self.last_waits.pop_front();
             }
-            Ok(outcome) => {
-                let word = match outcome.answer {
-                    Answer::Ok => "ok",
-                    Answer::Run => "run",
-                    Answer::Wait { .. } => "wait",
-                };
-                add(&mut self.answers, word);
-                add(&mut self.admissions, outcome.admitted.len());
-                for admission in &outcome.admitted {
-                    add(&mut self.retries, admission.retries);
-                }
-                let most = usize::from(session.setup().processors);
-                self.above_m += u64::from(outcome.admitted.len() > most);
-                self.room_only += u64::from(session.waits_for_room_only());
-            }
-        }
-    }
-
-    /// What must have come up, each with its count and the least count that will do.
-    pub fn must_come_up(&self) -> Vec<(String, u64, u64)> {
-        let refusals = REFUSALS.map(|number| {
-            let what = format!("refusal {number}");
-            (what, count(&self.refusals, number), 1)
-        });
-        let answers = ANSWERS.map(|word| {
-            let what = format!("answer {word}");
-            (what, count(&self.answers, word), 1)
-        });
-        let others = [
-            ("one task admitted", count(&self.admissions, 1), 1),
-            ("several tasks admitted", above(&self.admissions, 1), 1),
-            ("16 tasks admitted", count(&self.admissions, 16), 1),
-            ("admitted with 1 retry", count(&self.retries, 1), 1),
-            ("admitted with more retries", above(&self.retries, 1), 1),
-            ("a wait for a processor only", self.room_only, 1),
-            (
-                "logs for each m from 1 to 16",
-                least(&self.processors, 16),
-                3,
-            ),
-            ("logs for each n from 1 to 64", least(&self.tasks, 64), 3),
-        ];
-        let others = others.map(|(what, count, least)| (what.to_string(), count, least));
-        refusals.into_iter().chain(answers).chain(others).collect()
-    }
-
-    /// What the rules never let come up, each with its count.
-    ///
-    /// A waiting transaction clashed with an executing one when it was released, and is admitted
-    /// only after that one's commit, which raises its retry count; so none is admitted with 0.
-    pub fn must_not_come_up(&self) -> [(&'static str, u64); 2] {
-        let without_retry = count(&self.retries, 0);
-        [
-            ("admitted with 0 retries", without_retry),
-            ("more than m admitted", self.above_m),
-        ]
-    }
-
-    pub fn print(&self, report: &mut impl Write) -> io::Result<()> {
-        writeln!(report, "What came up, in {} events:", self.events)?;
-        for (what, count, _) in self.must_come_up() {
-            writeln!(report, "  {what:<30} {count:>9}")?;
-        }
-        for (what, count) in self.must_not_come_up() {
-            writeln!(report, "  {what:<30} {count:>9} (the rules allow none)")?;
-        }
-        writeln!(
-            report,
-            "  Refusal 25 came up by an end count that differs. Its other case, an"
-        )?;
-        writeln!(
-            report,
-            "  event record after the 4,294,967,295th, is out of reach of a test."
-        )?;
-        writeln!(report, "Accepted events by how many tasks they admitted:")?;
-        for (admitted, count) in &self.admissions {
-            writeln!(report, "  {admitted:<30} {count:>9}")?;
         }
         Ok(())
+    }
+
+    /// The figures of each task, by number.
+    pub fn tasks(&self) -> &[Figures] {
+        &self.tasks
+    }
+
+    /// How many waits were booked, of all tasks.
+    pub fn waits(&self) -> u64 {
+        self.tasks.iter().map(|task| task.waits).sum()
+    }
+
+    /// The wait at the middle: of k last waits in rising order, number ⌈k/2⌉.
+    pub fn middle(&self) -> u64 {
+        self.wait_number(self.last_waits.len().div_ceil(2))
+    }
+
+    /// The wait at nine tenths: of k last waits in rising order, number ⌈9k/10⌉.
+    pub fn nine_tenths(&self) -> u64 {
+        self.wait_number((9 * self.last_waits.len()).div_ceil(10))
+    }
+
+    /// The last waits in rising order, counted from 1; 0 where there is none.
+    fn wait_number(&self, number: usize) -> u64 {
+        let mut rising: Vec<u64> = self.last_waits.iter().copied().collect();
+        rising.sort();
+        match number {
+            0 => 0,
+            _ => rising[number - 1],
+        }
+    }
+
+    /// The tasks that have a wait booked: most ticks first, then the lower number.
+    pub fn most(&self) -> Vec<usize> {
+        let tasks = 0..self.tasks.len();
+        let mut waited: Vec<usize> = tasks.filter(|task| self.tasks[*task].waits > 0).collect();
+        waited.sort_by_key(|task| (Reverse(self.tasks[*task].ticks), *task));
+        waited
     }
 }

@@ -31,7 +31,7 @@ pub const SESSIONS: [Written; 4] = [
 ];
 
 /// "A whole session" of document 01. At tick 5 task 2 runs although it clashes with waiting task 1.
-const WHOLE_TEXT: &str = "\
+pub const WHOLE_TEXT: &str = "\
 setup 2
 task 10 100 2
 task 30 50 1
@@ -75,7 +75,7 @@ end 12 2
 
 /// "Easy to get wrong", the first case: when task 0 commits, task 1 has no room, since task 3 is
 /// plain above it. The scan after task 3's deferred release admits it.
-const DEFERRED_TEXT: &str = "\
+pub const DEFERRED_TEXT: &str = "\
 setup 2
 task 10 100 1
 task 20 100 1
@@ -110,7 +110,7 @@ end 9 0
 
 /// "Easy to get wrong", the third case: the two waiting tasks clash with each other, so that the
 /// commit of task 0 admits only the higher one, although both have room.
-const PAIR_TEXT: &str = "\
+pub const PAIR_TEXT: &str = "\
 setup 3
 task 30 100 1
 task 20 100 1
@@ -143,7 +143,7 @@ end 8 0
 
 /// "Easy to get wrong", the last case: task 0 writes 1 and commits, and then writes 2, so that
 /// task 1 does not clash with it. An empty transaction and two readers do not clash either.
-const NEW_SETS_TEXT: &str = "\
+pub const NEW_SETS_TEXT: &str = "\
 setup 4
 task 5 10 2
 task 5 10 1

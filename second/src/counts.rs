@@ -1,0 +1,60 @@
+//! Counts by a key, and the classes of things that must come up in a comparison.
+
+use std::collections::BTreeMap;
+use std::io::{self, Write};
+
+pub type Counts<K> = BTreeMap<K, u64>;
+
+pub fn add<K: Ord>(counts: &mut Counts<K>, key: K) {
+    *counts.entry(key).or_default() += 1;
+}
+
+pub fn count<K: Ord>(counts: &Counts<K>, key: K) -> u64 {
+    counts.get(&key).copied().unwrap_or(0)
+}
+
+/// How many were counted above a key.
+pub fn above<K: Ord>(counts: &Counts<K>, key: K) -> u64 {
+    counts
+        .iter()
+        .filter(|(found, _)| **found > key)
+        .map(|(_, count)| count)
+        .sum()
+}
+
+/// The least count of the keys from 1 to `last`.
+pub fn least(counts: &Counts<usize>, last: usize) -> u64 {
+    (1..=last).map(|key| count(counts, key)).min().unwrap_or(0)
+}
+
+/// A class of things that must come up: how often it did, and the least that will do.
+pub struct Class {
+    pub what: String,
+    pub count: u64,
+    pub least: u64,
+}
+
+impl Class {
+    pub fn new(what: impl Into<String>, count: u64, least: u64) -> Class {
+        Class {
+            what: what.into(),
+            count,
+            least,
+        }
+    }
+
+    /// A class that must come up once at least.
+    pub fn once(what: impl Into<String>, count: u64) -> Class {
+        Class::new(what, count, 1)
+    }
+}
+
+/// A line for each class.
+pub fn print_classes(report: &mut impl Write, classes: &[Class]) -> io::Result<()> {
+    let width = classes.iter().map(|class| class.what.len()).max();
+    let width = width.unwrap_or(0).max(30);
+    for Class { what, count, .. } in classes {
+        writeln!(report, "  {what:<width$} {count:>9}")?;
+    }
+    Ok(())
+}

@@ -1,0 +1,49 @@
+//! The score of a comparison: what passed and what failed, and its last line.
+
+use std::io::{self, Write};
+
+use crate::counts::Class;
+
+pub struct Score<W> {
+    pub report: W,
+    passed: u64,
+    failed: u64,
+}
+
+impl<W: Write> Score<W> {
+    pub fn new(report: W) -> Score<W> {
+        Score {
+            report,
+            passed: 0,
+            failed: 0,
+        }
+    }
+
+    /// Books one thing that was tried; what failed is said at once.
+    pub fn book(&mut self, passed: bool, what: &str) -> io::Result<()> {
+        if passed {
+            self.passed += 1;
+            Ok(())
+        } else {
+            self.failed += 1;
+            writeln!(self.report, "FAILED {what}")
+        }
+    }
+
+    /// Books whether each class came up often enough.
+    pub fn book_classes(&mut self, classes: &[Class]) -> io::Result<()> {
+        for class in classes {
+            let what = format!("{}: came up {} times", class.what, class.count);
+            self.book(class.count >= class.least, &what)?;
+        }
+        Ok(())
+    }
+
+    /// Prints the last line. True if nothing failed.
+    pub fn last_line(mut self) -> io::Result<bool> {
+        let (passed, failed) = (self.passed, self.failed);
+        writeln!(self.report, "{passed} passed, {failed} failed")?;
+        self.report.flush()?;
+        Ok(failed == 0)
+    }
+}

@@ -1,0 +1,357 @@
+//! Compares another report program with this one, list by list.
+
+use std::ffi::{OsStr, OsString};
+use std::fs;
+use std::io::{self, Write};
+use std::os::unix::ffi::OsStrExt;
+use std::process::Stdio;
+
+use crate::damage::{make, DAMAGES};
+use crate::folder::Folder;
+use crate::other::{first_difference, said_by, Feeding};
+use crate::random::{log_of_waits, Random, Size};
+use crate::report::{bad_line, sheet_of_files, sheet_of_input, Trouble};
+use crate::rules::Refusal;
+use crate::score::Score;
+use crate::seasons::{season, GOOD, OTHER_SETUPS};
+use crate::sheet_counts::SheetCounts;
+use crate::sheet_vectors::{Part, LISTS, TROUBLES};
+use crate::text::log_of_text;
+use crate::vectors::WHOLE_TEXT;
+
+/// How many lists of each good kind, of each damage, and with each difference of a setup.
+const GOOD_SEEDS: usize = 64;
+const DAMAGED_SEEDS: usize = 5;
+const OTHER_SETUP_SEEDS: usize = 10;
+
+/// Compares on every list, and prints what failed, the counts, and a last line of sums.
+/// True if nothing failed.
+pub fn sheets(program: &[OsString], report: &mut impl Write) -> io::Result<bool> {
+    let mut comparison = Comparison {
+        program,
+        folder: Folder::new("sheets")?,
+        score: Score::new(report),
+        counts: SheetCounts::default(),
+        lists: 0,
+        example: written(WHOLE_TEXT),
+    };
+    comparison.written_lists()?;
+    comparison.written_troubles()?;
+    comparison.seasons()?;
+    comparison.cuts()?;
+    comparison.standard_input()?;
+    comparison.names()?;
+    comparison.unreadable()?;
+    comparison.rounds()?;
+    comparison.large_lists()?;
+    comparison.sums()
+}
+
+struct Comparison<'a, W> {
+    program: &'a [OsString],
+    folder: Folder,
+    score: Score<W>,
+    counts: SheetCounts,
+    lists: u64,
+    /// The log of document 01's session.
+    example: Vec<u8>,
+}
+
+/// The log of a text that was written down in this program.
+fn written(text: &str) -> Vec<u8> {
+    log_of_text(text.as_bytes()).expect("the texts written down are logs")
+}
+
+/// The bytes of a log that a written list asks for.
+fn first_bytes(part: &Part) -> Vec<u8> {
+    let mut log = written(part.text);
+    log.truncate(part.bytes);
+    log
+}
+
+impl<W: Write> Comparison<'_, W> {
+    /// The lists written down with their sheets: this program is held to those sheets first.
+    fn written_lists(&mut self) -> io::Result<()> {
+        for list in LISTS {
+            let logs: Vec<Vec<u8>> = list.texts.iter().map(|text| written(text)).collect();
+            let names = self.put(&logs)?;
+            self.hold(list.name, &names, list.sheet.as_bytes())?;
+            self.list(list.name, &names)?;
+        }
+        let name = self.put(&[&self.example])?.remove(0);
+        let names = [name.clone(), name];
+        self.hold("one name twice", &names, LISTS[0].sheet.as_bytes())?;
+        self.list("one name twice", &names)
+    }
+
+    /// Lists without a sheet, each with the number and the name that it must end with.
+    fn written_troubles(&mut self) -> io::Result<()> {
+        for list in TROUBLES {
+            let logs: Vec<Vec<u8>> = list.logs.iter().map(first_bytes).collect();
+            let names = self.put(&logs)?;
+            let mut line = format!("bad {} ", list.number).into_bytes();
+            line.extend(names[list.place].as_encoded_bytes());
+            line.push(b'\n');
+            self.hold(list.name, &names, &line)?;
+            self.list(list.name, &names)?;
+        }
+        Ok(())
+    }
+
+    /// Random lists: good ones, ones with every kind of damage, and ones in which a setup differs
+    /// in every way. Of these last ones, each must end with 40.
+    fn seasons(&mut self) -> io::Result<()> {
+        let good = GOOD.map(|(kind, _)| (kind, GOOD_SEEDS));
+        let damaged = DAMAGES.map(|(kind, _)| (kind, DAMAGED_SEEDS));
+        let kinds = good.into_iter().chain(damaged);
+        for ((kind, seeds), first_seed) in kinds.zip((0..).step_by(1001)) {
+            for seed in (first_seed..).take(seeds) {
+                self.season(seed, kind)?;
+            }
+        }
+        for ((kind, _), first_seed) in OTHER_SETUPS.iter().zip((50_000..).step_by(1001)) {
+            for seed in (first_seed..).take(OTHER_SETUP_SEEDS) {
+                let names = self.season(seed, kind)?;
+                let ours = sheet_of_files(&names, &mut ());
+                let differ = matches!(ours, Err(Trouble::Bad(Refusal::SetupsDiffer, _)));
+                self.score
+                    .book(differ, &format!("season {seed} {kind}: not 40"))?;
+            }
+        }
+        Ok(())
+    }
+
+    fn season(&mut self, seed: u64, kind: &str) -> io::Result<Vec<OsString>> {
+        let logs = season(seed, kind).unwrap_or_default();
+        let names = self.put(&logs)?;
+        self.list(&format!("season {seed} {kind}"), &names)?;
+        Ok(names)
+    }
+
+    /// 01's session twice, the second one cut at every seventh byte.
+    fn cuts(&mut self) -> io::Result<()> {
+        for length in (0..self.example.len()).step_by(7) {
+            let names = self.put(&[&self.example[..], &self.example[..length]])?;
+            self.list(&format!("a second log of {length} bytes"), &names)?;
+        }
+        Ok(())
+    }
+
+    /// No name at all: one log from standard input, good or bad, at once or through a slow pipe.
+    fn standard_input(&mut self) -> io::Result<()> {
+        let example = self.example.clone();
+        self.input("01's session as input", &example, Feeding::AtOnce)?;
+        self.input("01's session as input", &example, Feeding::InPieces(1))?;
+        self.input("nothing as input", &[], Feeding::AtOnce)?;
+        let kinds = ["good", "cut", "flock", "flip", "busy", "spare", "after-end"];
+        let feedings = [Feeding::AtOnce, Feeding::InPieces(73), Feeding::InPieces(5)];
+        let ways = kinds.into_iter().cycle().zip(feedings.into_iter().cycle());
+        for (seed, (kind, feeding)) in (7000..7042).zip(ways) {
+            let size = Size {
+                events: 60,
+                ..Size::of_seed(31 * seed)
+            };
+            let log = make(seed, kind, size).unwrap_or_default();
+            self.input(&format!("make {seed} {kind} as input"), &log, feeding)?;
+        }
+        Ok(())
+    }
+
+    /// Names that are not plain words, for a good log, for a bad one and for none.
+    fn names(&mut self) -> io::Result<()> {
+        let long = "n".repeat(250);
+        let names: [&[u8]; 12] = [
+            b"two words",
+            b" space  at both ends ",
+            b"-",
+            b"-1",
+            b"--help",
+            b"tab\tand\nnew line",
+            b"quote ' and \" and $HOME and * and \\",
+            b"per cent %s %n",
+            "Gewässer".as_bytes(),
+            b"no text \xff\xfe",
+            b".//./dots",
+            long.as_bytes(),
+        ];
+        for name in names {
+            let shown = String::from_utf8_lossy(name);
+            let given = self.name(name);
+            fs::write(&given, &self.example)?;
+            self.list(&format!("the name {shown:?}"), std::slice::from_ref(&given))?;
+            fs::write(&given, &self.example[1..])?;
+            let good = self.put(&[&self.example])?.remove(0);
+            self.list(
+                &format!("a bad log {shown:?}"),
+                &[good.clone(), given.clone()],
+            )?;
+            fs::remove_file(&given)?;
+            self.list(&format!("no log {shown:?}"), &[good, given])?;
+        }
+        Ok(())
+    }
+
+    /// Logs that cannot be opened or read, before and after good and bad ones.
+    fn unreadable(&mut self) -> io::Result<()> {
+        let names = self.put(&[&self.example[..], &self.example[1..]])?;
+        let (good, bad) = (&names[0], &names[1]);
+        let (missing, folder) = (&self.name(b"missing"), &self.name(b"folder"));
+        fs::create_dir(folder)?;
+        let below_file = &self.name(b"log 1/below");
+        for none in [missing, folder, below_file] {
+            let lists: [&[&OsString]; 7] = [
+                &[none],
+                &[none, good],
+                &[good, none],
+                &[good, none, good],
+                &[none, bad],
+                &[bad, none],
+                &[none, missing],
+            ];
+            for list in lists {
+                let names: Vec<OsString> = list.iter().map(|name| (*name).clone()).collect();
+                self.list(&format!("the names {names:?}"), &names)?;
+            }
+        }
+        Ok(())
+    }
+
+    /// Lists with about as many waits as the middle and the nine tenths are taken over, in one
+    /// log or in three; the first waits are the longer ones, or the last.
+    fn rounds(&mut self) -> io::Result<()> {
+        for (seed, waits) in (8000..).zip([4095, 4096, 4097, 4100, 8191, 8193]) {
+            let mut random = Random::new(seed);
+            let lengths: Vec<u32> = (0..waits)
+                .map(|wait| match (wait > waits / 2) == (seed % 2 == 0) {
+                    true => random.between(0, 100),
+                    false => random.between(80, 1000),
+                })
+                .collect();
+            let mut log = |waits: &[u32]| log_of_waits(&mut random, waits);
+            let one = log(&lengths);
+            let (first, rest) = lengths.split_at(waits / 3);
+            let (second, third) = rest.split_at(rest.len() / 5);
+            let three = [log(first), log(second), log(third)];
+            let names = self.put(&[one])?;
+            self.list(&format!("{waits} waits in one log"), &names)?;
+            let names = self.put(&three)?;
+            self.list(&format!("{waits} waits in three logs"), &names)?;
+        }
+        Ok(())
+    }
+
+    /// Large logs, the last of them with more events than a session accepts; and very many logs.
+    fn large_lists(&mut self) -> io::Result<()> {
+        for (processors, tasks) in [(2, 4), (16, 64)] {
+            let size = Size::new(processors, tasks, 50_000);
+            let log = make(3000, "busy", size).unwrap_or_default();
+            let names = self.put(&[&log, &log])?;
+            self.list(&format!("a large log twice, n {tasks}"), &names)?;
+        }
+        let log = make(4000, "full", Size::new(2, 4, 200)).unwrap_or_default();
+        let names = self.put(&[log])?;
+        self.list("a full session", &names)?;
+        let names = self.put(&[&self.example; 365])?;
+        self.list("365 logs", &names)
+    }
+
+    /// Puts logs into the folder, and gives their names.
+    fn put(&self, logs: &[impl AsRef<[u8]>]) -> io::Result<Vec<OsString>> {
+        let mut names = Vec::new();
+        for (place, log) in logs.iter().enumerate() {
+            let name = self.name(format!("log {}", place + 1).as_bytes());
+            fs::write(&name, log)?;
+            names.push(name);
+        }
+        Ok(names)
+    }
+
+    /// The name of a file in the folder, by its bytes.
+    fn name(&self, file: &[u8]) -> OsString {
+        let mut name = self.folder.path().as_os_str().to_os_string();
+        name.push("/");
+        name.push(OsStr::from_bytes(file));
+        name
+    }
+
+    /// Holds this program's own output for a list to one that was written down.
+    fn hold(&mut self, what: &str, names: &[OsString], wanted: &[u8]) -> io::Result<()> {
+        let output = output(&sheet_of_files(names, &mut ()));
+        let difference = first_difference(&output, wanted);
+        let what = format!("{what}: not what is written down\n{difference}");
+        self.score.book(output == wanted, &what)
+    }
+
+    /// Compares the output of both programs for a list of names.
+    fn list(&mut self, what: &str, names: &[OsString]) -> io::Result<()> {
+        let ours = sheet_of_files(names, &mut self.counts);
+        // A program that is given names has no use for this input.
+        let input = self.example.clone();
+        self.compare(what, names, &input, Feeding::AtOnce, &ours)
+    }
+
+    /// Compares the output of both programs for one log as standard input.
+    fn input(&mut self, what: &str, log: &[u8], feeding: Feeding) -> io::Result<()> {
+        let ours = sheet_of_input(log, &mut self.counts);
+        let what = format!("{what}{}", feeding.in_words());
+        self.compare(&what, &[], log, feeding, &ours)
+    }
+
+    fn compare(
+        &mut self,
+        what: &str,
+        names: &[OsString],
+        input: &[u8],
+        feeding: Feeding,
+        ours: &Result<String, Trouble>,
+    ) -> io::Result<()> {
+        self.lists += 1;
+        self.counts.book_list(names, ours);
+        let unreadable = match ours {
+            Err(Trouble::Unreadable(_, name)) => Some(name),
+            _ => None,
+        };
+        let errors = match unreadable {
+            Some(_) => Stdio::piped(),
+            None => Stdio::inherit(),
+        };
+        let Some(said) = said_by(self.program, names, input, feeding, errors)? else {
+            let what = format!("{what}: the other program was killed");
+            return self.score.book(false, &what);
+        };
+        let output = output(ours);
+        let difference = first_difference(&output, &said.output);
+        self.score
+            .book(said.output == output, &format!("{what}\n{difference}"))?;
+        if let Some(name) = unreadable {
+            let errors = String::from_utf8_lossy(&said.errors);
+            let what = format!("{what}: not named on standard error, which is {errors:?}");
+            self.score.book(names_file(&said.errors, name), &what)?;
+        }
+        Ok(())
+    }
+
+    /// Prints the counts, holds them to what must have come up, and prints the last line.
+    fn sums(mut self) -> io::Result<bool> {
+        self.counts.print(&mut self.score.report)?;
+        self.score.book_classes(&self.counts.must_come_up())?;
+        writeln!(self.score.report, "{} lists compared", self.lists)?;
+        self.score.last_line()
+    }
+}
+
+/// What is on standard output: a sheet, the one line of a bad log, or nothing.
+fn output(result: &Result<String, Trouble>) -> Vec<u8> {
+    match result {
+        Ok(sheet) => sheet.clone().into_bytes(),
+        Err(Trouble::Bad(refusal, name)) => bad_line(*refusal, name),
+        Err(Trouble::Unreadable(..)) => Vec::new(),
+    }
+}
+
+/// Whether standard error says `NAME: ` somewhere.
+fn names_file(errors: &[u8], name: &OsString) -> bool {
+    let mut said = name.as_encoded_bytes().to_vec();
+    said.extend(b": ");
+    errors.windows(said.len()).any(|part| part == said)
+}

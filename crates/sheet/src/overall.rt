@@ -1,0 +1,51 @@
+// The figures that are over all tasks: from a tally and its row.
+ghost use mathlib.Core.Path.{_≡_};
+ghost use Prim.Native.Nat.{min};
+ghost use Rattle.report.specs.Items.{waitsBooked};
+ghost use Rattle.report.specs.Sheet.{keptIn, middle, nineTenths};
+use report::Figures;
+use report::Tally;
+use rising::in_rising;
+
+// How many waits are booked, of all tasks.
+fn waits_booked(figures: [Figures; 64]) -> usize
+    ensures { λ x. ⌜ x ≡ waitsBooked figures ⌝ }
+{
+    let mut total: usize = 0;
+    for i in 0..64 {
+        let f = figures[i];
+        total += f.waits as usize;
+    }
+    total
+}
+
+fn lesser(a: usize, b: usize) -> usize
+    ensures { λ x. ⌜ x ≡ min a b ⌝ }
+{
+    if a < b { a } else { b }
+}
+
+// How many of the last waits the row holds, from its front on.
+fn kept_in(figures: [Figures; 64], row: &[u32]) -> usize
+    ensures { λ k. ⌜ k ≡ keptIn figures (now (row .entry)) ⌝ }
+{
+    lesser(lesser(4096, row.len()), waits_booked(figures))
+}
+
+// The wait at the middle of the last waits, in rising order.
+pub fn middle(t: Tally, row: &[u32]) -> u32
+    ensures { λ x. ⌜ x ≡ middle t (now (row .entry)) ⌝ }
+{
+    let figures = t.figures;
+    let k = kept_in(figures, row);
+    in_rising(row, k, (k + 1) / 2)
+}
+
+// The wait at nine tenths of them.
+pub fn nine_tenths(t: Tally, row: &[u32]) -> u32
+    ensures { λ x. ⌜ x ≡ nineTenths t (now (row .entry)) ⌝ }
+{
+    let figures = t.figures;
+    let k = kept_in(figures, row);
+    in_rising(row, k, (9 * k + 9) / 10)
+}

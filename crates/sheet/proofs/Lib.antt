@@ -1,1 +1,3 @@
--- The sheet.
+-- The laws that the functions share.
+pub mod Foremost
+pub mod Writing

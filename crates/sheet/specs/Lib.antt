@@ -1,1 +1,2 @@
--- The sheet.
+-- The sheet's text.
+pub mod Text

@@ -1,4 +1,9 @@
-// The sheet over the logs: the figures that are over all tasks.
+// The sheet over the logs: the figures that are over all tasks, and its text.
+//
+// Read in this order: overall (the wait at the middle and at nine tenths), order (the tasks that waited), compose (the sheet while it is composed), lines (the
+// sheet and the line of a log that reads badly, put into a lent buffer).
+mod compose;
+mod order;
 mod overall;
 
 pub use overall::middle;

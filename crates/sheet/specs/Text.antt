@@ -1,0 +1,90 @@
+-- The sheet's text: lines that are their parts, with one space between two of them and a line feed at the end.
+use Prim.Native.Nat.{ℕ, zero, suc, min}
+use mathlib.Core.List.{List, [], _∷_, _++_}
+use Rattle.report.specs.declared.Figures.{Figures}
+use Rattle.report.specs.declared.Tally.{Tally}
+use Rattle.report.specs.Items.{figuresAt}
+use Rattle.report.specs.Sheet.{middle, nineTenths, most}
+use Rattle.text.specs.Decimal.{decimal}
+use Rattle.text.specs.Words.{badWord}
+use Rattle.text.specs.Lines.{joined}
+
+-- ---- words, in ASCII
+
+-- 'logs', 'middle', 'ninetenths', 'most', 'left': what the lines are told by
+abbrev pub logsWord : List ℕ
+logsWord = 108 ∷ 111 ∷ 103 ∷ 115 ∷ []
+
+abbrev pub middleWord : List ℕ
+middleWord = 109 ∷ 105 ∷ 100 ∷ 100 ∷ 108 ∷ 101 ∷ []
+
+abbrev pub nineTenthsWord : List ℕ
+nineTenthsWord = 110 ∷ 105 ∷ 110 ∷ 101 ∷ 116 ∷ 101 ∷ 110 ∷ 116 ∷ 104 ∷ 115 ∷ []
+
+abbrev pub mostWord : List ℕ
+mostWord = 109 ∷ 111 ∷ 115 ∷ 116 ∷ []
+
+abbrev pub leftWord : List ℕ
+leftWord = 108 ∷ 101 ∷ 102 ∷ 116 ∷ []
+
+-- 'task', 'committed', 'waited', 'retries', 'longest', 'ticks', 'waits': what stands in a row
+abbrev pub columns : List (List ℕ)
+columns =
+    (116 ∷ 97 ∷ 115 ∷ 107 ∷ [])
+    ∷ (99 ∷ 111 ∷ 109 ∷ 109 ∷ 105 ∷ 116 ∷ 116 ∷ 101 ∷ 100 ∷ [])
+    ∷ (119 ∷ 97 ∷ 105 ∷ 116 ∷ 101 ∷ 100 ∷ [])
+    ∷ (114 ∷ 101 ∷ 116 ∷ 114 ∷ 105 ∷ 101 ∷ 115 ∷ [])
+    ∷ (108 ∷ 111 ∷ 110 ∷ 103 ∷ 101 ∷ 115 ∷ 116 ∷ [])
+    ∷ (116 ∷ 105 ∷ 99 ∷ 107 ∷ 115 ∷ [])
+    ∷ (119 ∷ 97 ∷ 105 ∷ 116 ∷ 115 ∷ [])
+    ∷ []
+
+-- ---- lines
+
+-- numbers, in decimal
+unfoldable pub decimals : List ℕ → List (List ℕ)
+decimals [] = []
+decimals (n ∷ more) = decimal n ∷ decimals more
+
+-- a word and a number
+unfoldable pub namedText : List ℕ → ℕ → List ℕ
+unfolding joined
+namedText name n = joined (name ∷ decimal n ∷ [])
+
+-- a task and its figures, in the order of the columns
+unfoldable pub rowText : ℕ → Figures → List ℕ
+unfolding joined decimals
+rowText i f =
+    joined (decimals (i ∷ f .committed ∷ f .waited ∷ f .retries ∷ f .longest ∷ f .ticks ∷ f .waits ∷ []))
+
+-- the first n tasks
+unfoldable pub rowsText : ℕ → List Figures → List ℕ
+unfolding rowText
+rowsText zero all = []
+rowsText (suc n) all = rowsText n all ++ rowText n (figuresAt all n)
+
+-- the tasks that waited, in their order
+unfoldable pub mostText : List Figures → ℕ → List ℕ
+unfolding joined decimals most
+mostText all n = joined (mostWord ∷ decimals (most all n))
+
+-- how many tasks have a row: an n past 64, which no accepted setup has, counts as 64
+abbrev pub rowsOf : Tally → ℕ
+rowsOf t = min (t .setup .n) 64
+
+-- the sheet over so many logs, of which so many waits were left open, from a tally and its row
+unfoldable pub sheetText : ℕ → Tally → List ℕ → ℕ → List ℕ
+unfolding namedText joined rowsText mostText middle nineTenths
+sheetText logs t row left =
+    namedText logsWord logs
+    ++ joined columns
+    ++ rowsText (rowsOf t) (t .figures)
+    ++ namedText middleWord (middle t row)
+    ++ namedText nineTenthsWord (nineTenths t row)
+    ++ mostText (t .figures) (rowsOf t)
+    ++ namedText leftWord left
+
+-- the line of a log that reads badly: the number, and the log's name as it stands
+unfoldable pub badText : ℕ → List ℕ → List ℕ
+unfolding joined
+badText number name = joined (badWord ∷ decimal number ∷ name ∷ [])

@@ -1,0 +1,59 @@
+// The sheet while it is composed, from its front: each function puts a piece after what stands, and answers where the piece ends.
+ghost use mathlib.Core.Path.{_≡_};
+ghost use Prim.Native.Nat.{_+_, _*_, _≤_};
+ghost use mathlib.Core.List.{[], _∷_, _++_};
+ghost use lib.ListN.{length};
+ghost use Rattle.text.specs.Decimal.{decimal};
+ghost use Rattle.text.specs.Written.{putNext, Follows};
+ghost use Rattle.sheet.specs.Text.{rowText, rowsText};
+use report::Figures;
+use text::Put;
+use text::put_number;
+use text::put_word;
+
+// The next place.
+fn next_of(put: Put) -> usize
+    ensures { λ next. ⌜ next ≡ putNext put ⌝ }
+{
+    match put {
+        Put::Next(next) => next,
+        Put::Full => 0,
+    }
+}
+
+// A word.
+fn word(line: &mut [u8], at: usize, bytes: &[u8]) -> usize
+    requires { ⌜ at + length (now bytes) ≤ length (now line) ⌝ }
+    ensures { λ next. ⌜ Follows (now (line .entry)) at (now (bytes .entry)) (now (line .exit)) next ⌝ }
+{
+    next_of(put_word(line, at, bytes))
+}
+
+// A number, in decimal.
+fn number(line: &mut [u8], at: usize, n: u64) -> usize
+    requires { ⌜ at + 20 ≤ length (now line) ⌝ }
+    ensures { λ next. ⌜ Follows (now (line .entry)) at (decimal n) (now (line .exit)) next ⌝ }
+{
+    next_of(put_number(line, at, n))
+}
+
+// A space and a number.
+fn spaced(line: &mut [u8], at: usize, n: u32) -> usize
+    requires { ⌜ at + 21 ≤ length (now line) ⌝ }
+    ensures is { λ next. ⌜ Follows (now (line .entry)) at (32 ∷ decimal n) (now (line .exit)) next ⌝ }
+    ensures reaches { λ next. ⌜ next ≤ at + 11 ⌝ }
+{
+    let next = word(line, at, b" ");
+    number(line, next, n as u64)
+}
+
+// A word and a number, to the end of the line.
+pub(crate) fn named(line: &mut [u8], at: usize, name: &[u8], n: u64) -> usize
+    requires { ⌜ at + length (now name) + 21 ≤ length (now line) ⌝ }
+    ensures is { λ next. ⌜ Follows (now (line .entry)) at (now (name .entry) ++ (decimal n ++ (10 ∷ []))) (now (line .exit)) next ⌝ }
+    ensures reaches { λ next. ⌜ next ≤ at + length (now (name .entry)) + 21 ⌝ }
+{
+    let a = word(line, at, name);
+    let b = number(line, a, n);
+    word(line, b, b"\n")
+}

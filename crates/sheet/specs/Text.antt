@@ -46,16 +46,23 @@ unfoldable pub decimals : List ℕ → List (List ℕ)
 decimals [] = []
 decimals (n ∷ more) = decimal n ∷ decimals more
 
+-- a piece of a line: numbers with a space before each
+unfoldable pub spacedText : List ℕ → List ℕ
+spacedText [] = []
+spacedText (n ∷ more) = 32 ∷ (decimal n ++ spacedText more)
+
 -- a word and a number
 unfoldable pub namedText : List ℕ → ℕ → List ℕ
 unfolding joined
 namedText name n = joined (name ∷ decimal n ∷ [])
 
--- a task and its figures, in the order of the columns
+-- a task's figures, in the order of the columns, and the row of a task
+abbrev pub figuresIn : Figures → List ℕ
+figuresIn f = f .committed ∷ f .waited ∷ f .retries ∷ f .longest ∷ f .ticks ∷ f .waits ∷ []
+
 unfoldable pub rowText : ℕ → Figures → List ℕ
 unfolding joined decimals
-rowText i f =
-    joined (decimals (i ∷ f .committed ∷ f .waited ∷ f .retries ∷ f .longest ∷ f .ticks ∷ f .waits ∷ []))
+rowText i f = joined (decimals (i ∷ figuresIn f))
 
 -- the first n tasks
 unfoldable pub rowsText : ℕ → List Figures → List ℕ
@@ -72,7 +79,7 @@ mostText all n = joined (mostWord ∷ decimals (most all n))
 abbrev pub rowsOf : Tally → ℕ
 rowsOf t = min (t .setup .n) 64
 
--- the sheet over so many logs, of which so many waits were left open, from a tally and its row
+-- the sheet, from a tally and its row; the counts of logs and of what is left are the caller's
 unfoldable pub sheetText : ℕ → Tally → List ℕ → ℕ → List ℕ
 unfolding namedText joined rowsText mostText middle nineTenths
 sheetText logs t row left =

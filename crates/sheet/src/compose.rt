@@ -5,7 +5,7 @@ ghost use mathlib.Core.List.{[], _∷_, _++_};
 ghost use lib.ListN.{length};
 ghost use Rattle.text.specs.Decimal.{decimal};
 ghost use Rattle.text.specs.Written.{putNext, Follows};
-ghost use Rattle.sheet.specs.Text.{rowText, rowsText};
+ghost use Rattle.sheet.specs.Text.{spacedText, figuresIn, rowText, rowsText};
 use report::Figures;
 use text::Put;
 use text::put_number;
@@ -56,4 +56,43 @@ pub(crate) fn named(line: &mut [u8], at: usize, name: &[u8], n: u64) -> usize
     let a = word(line, at, name);
     let b = number(line, a, n);
     word(line, b, b"\n")
+}
+
+// The figures of a task, in the order of the columns, with a space before each.
+fn figures(line: &mut [u8], at: usize, f: Figures) -> usize
+    requires { ⌜ at + 76 ≤ length (now line) ⌝ }
+    ensures is { λ next. ⌜ Follows (now (line .entry)) at (spacedText (figuresIn f)) (now (line .exit)) next ⌝ }
+    ensures reaches { λ next. ⌜ next ≤ at + 66 ⌝ }
+{
+    let a = spaced(line, at, f.committed);
+    let b = spaced(line, a, f.waited);
+    let c = spaced(line, b, f.retries);
+    let d = spaced(line, c, f.longest);
+    let e = spaced(line, d, f.ticks);
+    spaced(line, e, f.waits)
+}
+
+// The row of a task.
+fn row(line: &mut [u8], at: usize, i: u32, f: Figures) -> usize
+    requires { ⌜ at + 86 ≤ length (now line) ⌝ }
+    ensures is { λ next. ⌜ Follows (now (line .entry)) at (rowText i f) (now (line .exit)) next ⌝ }
+    ensures reaches { λ next. ⌜ next ≤ at + 77 ⌝ }
+{
+    let a = number(line, at, i as u64);
+    let b = figures(line, a, f);
+    word(line, b, b"\n")
+}
+
+// The rows of the first n tasks.
+pub(crate) fn rows(line: &mut [u8], at: usize, all: [Figures; 64], n: usize) -> usize
+    requires { ⌜ (n ≤ 64) × (at + 4937 ≤ length (now line)) ⌝ }
+    ensures is { λ next. ⌜ Follows (now (line .entry)) at (rowsText n all) (now (line .exit)) next ⌝ }
+    ensures reaches { λ next. ⌜ next ≤ at + 77 * n ⌝ }
+{
+    let mut next = at;
+    for i in 0..n {
+        let f = all[i];
+        next = row(line, next, i as u32, f);
+    }
+    next
 }

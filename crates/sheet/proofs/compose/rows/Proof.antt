@@ -1,0 +1,79 @@
+-- `sheet::compose::rows` meets its contract. The loop's invariant: the rows of the tasks passed stand, each of at most 77 bytes. The measure is how many are left.
+-- Assumes nothing.
+use Rattle.sheet.proofs.Writing.{rows-more}
+use Rattle.sheet.specs.Text.{rowsText}
+use Rattle.text.proofs.Writing.{follows-more, follows-as, follows-none}
+use Rattle.text.specs.Written.{Follows}
+use borrow.Author.Needs.{needs}
+use lib.ListN.{length}
+use native.Mathlib.Omega.{arith}
+use mathlib.Core.Path.{_≡_, refl, sym, ap}
+use Prim.Native.Nat.{ℕ, _+_, _*_, _-_, _≤_}
+use Rattle.sheet.proofs.compose.rows.Statement.{statement}
+use Rattle.sheet.proofs.compose.rows.Tie as tie
+
+abbrev Inv-loop : tie.InvT-loop
+Inv-loop line₀ at n all next₀ i₀ line next i = (i ≤ n) × (length line ≡ length line₀) × (next ≤ at + 77 * i) × Follows line₀ at (rowsText i all) line next
+
+abbrev μ-loop : tie.MeasureT-loop
+μ-loop line₀ at n all next₀ i₀ line next i = n - i
+
+loop-holds : tie.Need-loop-holds Inv-loop μ-loop
+unfolding rowsText
+loop-holds c = (omega arith, refl, omega arith, follows-none (c .before .args .line .now) (c .before .args .at))
+
+mul-f : tie.Need-mul-f Inv-loop μ-loop
+mul-f c = search needs
+
+array-copy-out-f : tie.Need-array-copy-out-f Inv-loop μ-loop
+array-copy-out-f c = search needs
+
+cast-row : tie.Need-cast-row Inv-loop μ-loop
+cast-row c = search needs
+
+row-requires : tie.Need-row-requires Inv-loop μ-loop
+row-requires c κs = omega (arith, c .before .before .before .loop .inv)
+
+add-i : tie.Need-add-i Inv-loop μ-loop
+add-i c = search needs
+
+loop-less : tie.Need-loop-less Inv-loop μ-loop
+loop-less c = search needs
+
+loop-again : tie.Need-loop-again Inv-loop μ-loop
+loop-again c =
+    let all = c .before .before .before .before .before .before .before .before .args .t3 in
+    let loop = c .before .before .before .before .before .before .loop in
+    let one = c .before .before .row in (
+      omega arith,
+      omega (arith, one .kept .0, loop .inv .1),
+      omega (arith, one .ensures .1, loop .inv .2),
+      follows-as (follows-more (loop .inv .3) (one .ensures .0)) (sym (rows-more (loop .i) all)),
+    )
+
+same-length : tie.Need-same-length Inv-loop μ-loop
+same-length c = c .before .loop .inv .1
+
+returns : tie.Need-returns Inv-loop μ-loop
+returns c =
+    let a = c .before .before .before .args in
+    let loop = c .before .loop in
+    let done : loop .i ≡ a .n = omega arith in
+    (follows-as (loop .inv .3) (ap (λ (k : ℕ). rowsText k (a .t3)) done), omega (arith, loop .inv .2))
+
+pub rows-spec : {M : Type 1} → statement M
+rows-spec =
+    tie.close
+    (tie.spec
+    Inv-loop
+    μ-loop
+    loop-holds
+    mul-f
+    array-copy-out-f
+    cast-row
+    row-requires
+    add-i
+    loop-less
+    loop-again
+    same-length
+    returns)

@@ -1,3 +1,3 @@
--- Why the report's figures are what the events say: the laws, and the theorem over the list of sessions.
+-- The report's theorem, and the laws that it stands on.
 pub mod Laws
 pub mod Report

@@ -70,10 +70,20 @@ unfolding rowText
 rowsText zero all = []
 rowsText (suc n) all = rowsText n all ++ rowText n (figuresAt all n)
 
--- the tasks that waited, in their order
-unfoldable pub mostText : List Figures → ℕ → List ℕ
+-- those of the first n tasks that waited, in their order
+unfoldable pub mostText : ℕ → List Figures → List ℕ
 unfolding joined decimals most
-mostText all n = joined (mostWord ∷ decimals (most all n))
+mostText n all = joined (mostWord ∷ decimals (most all n))
+
+-- the lines up to the last row
+unfoldable pub headText : ℕ → ℕ → List Figures → List ℕ
+unfolding namedText joined rowsText
+headText logs n all = namedText logsWord logs ++ joined columns ++ rowsText n all
+
+-- the lines after the rows: what is over all tasks
+unfoldable pub footText : ℕ → ℕ → ℕ → List Figures → ℕ → List ℕ
+unfolding namedText mostText
+footText half nine n all left = namedText middleWord half ++ namedText nineTenthsWord nine ++ mostText n all ++ namedText leftWord left
 
 -- how many tasks have a row: an n past 64, which no accepted setup has, counts as 64
 abbrev pub rowsOf : Tally → ℕ
@@ -81,15 +91,9 @@ rowsOf t = min (t .setup .n) 64
 
 -- the sheet, from a tally and its row; the counts of logs and of what is left are the caller's
 unfoldable pub sheetText : ℕ → Tally → List ℕ → ℕ → List ℕ
-unfolding namedText joined rowsText mostText middle nineTenths
+unfolding headText footText middle nineTenths
 sheetText logs t row left =
-    namedText logsWord logs
-    ++ joined columns
-    ++ rowsText (rowsOf t) (t .figures)
-    ++ namedText middleWord (middle t row)
-    ++ namedText nineTenthsWord (nineTenths t row)
-    ++ mostText (t .figures) (rowsOf t)
-    ++ namedText leftWord left
+    headText logs (rowsOf t) (t .figures) ++ footText (middle t row) (nineTenths t row) (rowsOf t) (t .figures) left
 
 -- the line of a log that reads badly: the number, and the log's name as it stands
 unfoldable pub badText : ℕ → List ℕ → List ℕ

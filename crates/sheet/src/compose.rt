@@ -1,12 +1,18 @@
 // The sheet while it is composed, from its front: each function puts a piece after what stands, and answers where the piece ends.
 ghost use mathlib.Core.Path.{_≡_};
-ghost use Prim.Native.Nat.{_+_, _*_, _≤_};
+ghost use Prim.Native.Nat.{_+_, _*_, _≤_, min};
 ghost use mathlib.Core.List.{[], _∷_, _++_};
 ghost use lib.ListN.{length};
+ghost use Rattle.report.specs.Sheet.{most};
 ghost use Rattle.text.specs.Decimal.{decimal};
 ghost use Rattle.text.specs.Written.{putNext, Follows};
-ghost use Rattle.sheet.specs.Text.{spacedText, figuresIn, rowText, rowsText};
+ghost use Rattle.sheet.specs.Text.{spacedText, figuresIn, rowText, rowsText, mostText, headText, footText, sheetText};
+use crate::order::most_key;
+use crate::order::most_next;
+use crate::overall::middle;
+use crate::overall::nine_tenths;
 use report::Figures;
+use report::Tally;
 use text::Put;
 use text::put_number;
 use text::put_word;
@@ -95,4 +101,91 @@ pub(crate) fn rows(line: &mut [u8], at: usize, all: [Figures; 64], n: usize) -> 
         next = row(line, next, i as u32, f);
     }
     next
+}
+
+// The numbers of those of the first n tasks that waited, in their order, with a space before each.
+fn most_numbers(line: &mut [u8], at: usize, all: [Figures; 64], n: usize) -> usize
+    requires { ⌜ (n ≤ 64) × (at + 714 ≤ length (now line)) ⌝ }
+    ensures is { λ next. ⌜ Follows (now (line .entry)) at (spacedText (most all n)) (now (line .exit)) next ⌝ }
+    ensures reaches { λ next. ⌜ next ≤ at + 704 ⌝ }
+{
+    let mut next = at;
+    let mut from: u64 = 0;
+    for k in 0..n {
+        let i = most_next(all, n, from);
+        if i == 64 {
+            return next;
+        }
+        next = spaced(line, next, i as u32);
+        let f = all[i];
+        from = most_key(f, i) + 1;
+    }
+    next
+}
+
+// The line of those that waited.
+fn most_line(line: &mut [u8], at: usize, all: [Figures; 64], n: usize) -> usize
+    requires { ⌜ (n ≤ 64) × (at + 718 ≤ length (now line)) ⌝ }
+    ensures is { λ next. ⌜ Follows (now (line .entry)) at (mostText n all) (now (line .exit)) next ⌝ }
+    ensures reaches { λ next. ⌜ next ≤ at + 709 ⌝ }
+{
+    let a = word(line, at, b"most");
+    let b = most_numbers(line, a, all, n);
+    word(line, b, b"\n")
+}
+
+// The lines up to the last row.
+fn head(line: &mut [u8], logs: u32, all: [Figures; 64], n: usize) -> usize
+    requires { ⌜ (n ≤ 64) × (5120 ≤ length (now line)) ⌝ }
+    ensures is { λ next. ⌜ Follows (now (line .entry)) 0 (headText logs n all) (now (line .exit)) next ⌝ }
+    ensures reaches { λ next. ⌜ next ≤ 5004 ⌝ }
+{
+    let a = named(line, 0, b"logs ", logs as u64);
+    let b = word(
+        line,
+        a,
+        b"task committed waited retries longest ticks waits\n",
+    );
+    rows(line, b, all, n)
+}
+
+// The lines after the rows: what is over all tasks.
+fn foot(
+    line: &mut [u8],
+    at: usize,
+    half: u32,
+    nine: u32,
+    all: [Figures; 64],
+    n: usize,
+    left: u64,
+) -> usize
+    requires { ⌜ (n ≤ 64) × (at + 795 ≤ length (now line)) ⌝ }
+    ensures is { λ next. ⌜ Follows (now (line .entry)) at (footText half nine n all left) (now (line .exit)) next ⌝ }
+    ensures reaches { λ next. ⌜ next ≤ at + 795 ⌝ }
+{
+    let a = named(line, at, b"middle ", half as u64);
+    let b = named(line, a, b"ninetenths ", nine as u64);
+    let c = most_line(line, b, all, n);
+    named(line, c, b"left ", left)
+}
+
+// How many tasks have a row.
+fn rows_of(n: u8) -> usize
+    ensures { λ k. ⌜ k ≡ min n 64 ⌝ }
+{
+    if n < 64 { n as usize } else { 64 }
+}
+
+// The whole sheet.
+pub(crate) fn sheet_text(line: &mut [u8], logs: u32, t: Tally, row: &[u32], left: u64) -> usize
+    requires { ⌜ 6144 ≤ length (now line) ⌝ }
+    ensures is { λ next. ⌜ Follows (now (line .entry)) 0 (sheetText logs t (now (row .entry)) left) (now (line .exit)) next ⌝ }
+    ensures reaches { λ next. ⌜ next ≤ 6144 ⌝ }
+{
+    let all = t.figures;
+    let n = rows_of(t.setup.n);
+    let half = middle(t, row);
+    let nine = nine_tenths(t, row);
+    let next = head(line, logs, all, n);
+    foot(line, next, half, nine, all, n, left)
 }

@@ -3,8 +3,10 @@
 // Read in this order: overall (the wait at the middle and at nine tenths), order (the tasks that waited), compose (the sheet while it is composed), lines (the
 // sheet and the line of a log that reads badly, put into a lent buffer).
 mod compose;
+mod lines;
 mod order;
 mod overall;
 
+pub use lines::sheet;
 pub use overall::middle;
 pub use overall::nine_tenths;

@@ -1,0 +1,42 @@
+-- `sheet::lines::sheet` meets its contract: the composed sheet is put as a word is.
+-- Assumes nothing.
+use Rattle.text.proofs.Writing.{line-is}
+use lib.Seq.{length-take-le}
+use native.Mathlib.Omega.{arith}
+use mathlib.Core.Path.{sym}
+use borrow.Author.Needs.{needs}
+use Rattle.sheet.proofs.lines.sheet.Statement.{statement}
+use Rattle.sheet.proofs.lines.sheet.Tie as tie
+
+slice-aggregate-sheet-text : tie.Need-slice-aggregate-sheet-text
+slice-aggregate-sheet-text c = search needs
+
+sheet-text-requires : tie.Need-sheet-text-requires
+sheet-text-requires c κs = search needs
+
+array-share-prefix-line : tie.Need-array-share-prefix-line
+array-share-prefix-line c = search needs
+
+slice-aggregate-put-word : tie.Need-slice-aggregate-put-word
+slice-aggregate-put-word c = sym (length-take-le _ _ (omega arith))
+
+put-word-requires : tie.Need-put-word-requires
+put-word-requires c κs = search needs
+
+same-length : tie.Need-same-length
+same-length c = search needs
+
+returns : tie.Need-returns
+returns c = rw (line-is (c .before .before .before .before .before .before .sheet-text .ensures .0)) at (c .before .before .put-word .ensures)
+
+pub sheet-spec : {M : Type 1} → statement M
+sheet-spec =
+    tie.close
+    (tie.spec
+    slice-aggregate-sheet-text
+    sheet-text-requires
+    array-share-prefix-line
+    slice-aggregate-put-word
+    put-word-requires
+    same-length
+    returns)

@@ -99,3 +99,7 @@ sheetText logs t row left =
 unfoldable pub badText : ℕ → List ℕ → List ℕ
 unfolding joined
 badText number name = joined (badWord ∷ decimal number ∷ name ∷ [])
+
+-- a piece of it: what stands before the name
+abbrev pub badFront : ℕ → List ℕ
+badFront number = badWord ++ (32 ∷ decimal number) ++ (32 ∷ [])

@@ -6,7 +6,7 @@ ghost use lib.ListN.{length};
 ghost use Rattle.report.specs.Sheet.{most};
 ghost use Rattle.text.specs.Decimal.{decimal};
 ghost use Rattle.text.specs.Written.{putNext, Follows};
-ghost use Rattle.sheet.specs.Text.{spacedText, figuresIn, rowText, rowsText, mostText, headText, footText, sheetText};
+ghost use Rattle.sheet.specs.Text.{spacedText, figuresIn, rowText, rowsText, mostText, headText, footText, sheetText, badFront};
 use crate::order::most_key;
 use crate::order::most_next;
 use crate::overall::middle;
@@ -188,4 +188,15 @@ pub(crate) fn sheet_text(line: &mut [u8], logs: u32, t: Tally, row: &[u32], left
     let nine = nine_tenths(t, row);
     let next = head(line, logs, all, n);
     foot(line, next, half, nine, all, n, left)
+}
+
+// What stands before the name of a log that reads badly.
+pub(crate) fn bad_front(line: &mut [u8], number: u8) -> usize
+    requires { ⌜ 32 ≤ length (now line) ⌝ }
+    ensures is { λ next. ⌜ Follows (now (line .entry)) 0 (badFront number) (now (line .exit)) next ⌝ }
+    ensures reaches { λ next. ⌜ next ≤ 32 ⌝ }
+{
+    let a = word(line, 0, b"bad");
+    let b = spaced(line, a, number as u32);
+    word(line, b, b" ")
 }

@@ -7,6 +7,7 @@ mod lines;
 mod order;
 mod overall;
 
+pub use lines::bad_name;
 pub use lines::sheet;
 pub use overall::middle;
 pub use overall::nine_tenths;

@@ -1,2 +1,3 @@
--- The sheet's text.
+-- The sheet's text, and a worked one.
 pub mod Text
+pub mod Example

@@ -1,8 +1,8 @@
 -- `sheet::compose::bad_front` meets its contract: the number follows the word, and a space the number.
 -- Assumes nothing.
-use Rattle.text.proofs.Writing.{follows-more}
 use native.Mathlib.Omega.{arith}
 use borrow.Author.Needs.{needs}
+use Rattle.text.proofs.Writing.{follows-more}
 use Rattle.sheet.proofs.compose.bad_front.Statement.{statement}
 use Rattle.sheet.proofs.compose.bad_front.Tie as tie
 

@@ -1,12 +1,12 @@
 -- `sheet::compose::figures` meets its contract: six numbers of at most ten digits, with a space before each.
 -- Assumes nothing.
-use Rattle.sheet.specs.Text.{spacedText}
+use mathlib.Core.List.{_∷_, append-nil}
+use mathlib.Core.Path.{sym}
+use native.Mathlib.Omega.{arith}
+use borrow.Author.Needs.{needs}
 use Rattle.text.proofs.Writing.{follows-more, follows-as}
 use Rattle.text.specs.Decimal.{decimal}
-use native.Mathlib.Omega.{arith}
-use mathlib.Core.List.{List, _∷_, append-nil}
-use mathlib.Core.Path.{sym, ap}
-use borrow.Author.Needs.{needs}
+use Rattle.sheet.specs.Text.{spacedText}
 use Rattle.sheet.proofs.compose.figures.Statement.{statement}
 use Rattle.sheet.proofs.compose.figures.Tie as tie
 

@@ -1,9 +1,9 @@
 -- `sheet::compose::foot` meets its contract: four lines, each after the one before.
 -- Assumes nothing.
-use Rattle.sheet.specs.Text.{footText}
-use Rattle.text.proofs.Writing.{follows-more}
 use native.Mathlib.Omega.{arith}
 use borrow.Author.Needs.{needs}
+use Rattle.text.proofs.Writing.{follows-more}
+use Rattle.sheet.specs.Text.{footText}
 use Rattle.sheet.proofs.compose.foot.Statement.{statement}
 use Rattle.sheet.proofs.compose.foot.Tie as tie
 

@@ -1,9 +1,9 @@
 -- `sheet::compose::head` meets its contract: the names of the columns follow the first line, and the rows the names.
 -- Assumes nothing.
-use Rattle.sheet.specs.Text.{headText}
-use Rattle.text.proofs.Writing.{follows-more}
 use native.Mathlib.Omega.{arith}
 use borrow.Author.Needs.{needs}
+use Rattle.text.proofs.Writing.{follows-more}
+use Rattle.sheet.specs.Text.{headText}
 use Rattle.sheet.proofs.compose.head.Statement.{statement}
 use Rattle.sheet.proofs.compose.head.Tie as tie
 

@@ -1,14 +1,14 @@
 -- `sheet::compose::most_line` meets its contract: the numbers follow the word, and the line feed the numbers.
 -- Assumes nothing.
-use Rattle.sheet.proofs.Writing.{spaced-line}
-use Rattle.sheet.specs.Text.{mostWord, mostText}
-use Rattle.text.proofs.Writing.{follows-more, follows-as}
-use Rattle.report.specs.Sheet.{most}
 use Prim.Native.Nat.{ℕ}
-use native.Mathlib.Omega.{arith}
-use mathlib.Core.List.{List, _++_, append-assoc}
+use mathlib.Core.List.{List, _++_}
 use mathlib.Core.Path.{sym, ap}
+use native.Mathlib.Omega.{arith}
 use borrow.Author.Needs.{needs}
+use Rattle.report.specs.Sheet.{most}
+use Rattle.text.proofs.Writing.{follows-more, follows-as}
+use Rattle.sheet.specs.Text.{mostWord, mostText}
+use Rattle.sheet.proofs.Writing.{spaced-line}
 use Rattle.sheet.proofs.compose.most_line.Statement.{statement}
 use Rattle.sheet.proofs.compose.most_line.Tie as tie
 

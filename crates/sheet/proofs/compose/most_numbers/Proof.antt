@@ -1,14 +1,13 @@
 -- `sheet::compose::most_numbers` meets its contract. The loop's invariant: the numbers put so far and those from this key on are all, and each has at most 11 bytes with its
 -- space. The measure is how many there may still be. Assumes nothing.
-use Rattle.sheet.proofs.Listing.{Listed, listed-none, listed-more, listed-all, listed-as}
+use Prim.Native.Nat.{ℕ, suc, _+_, _*_, _-_, _≤_, _<_}
+use mathlib.Core.Path.{_≡_, refl, sym, ap, _∙_}
+use native.Mathlib.Omega.{arith}
+use lib.ListN.{length}
+use borrow.Author.Needs.{needs}
 use Rattle.report.proofs.Laws.Most.{next-below, from-zero, from-none, from-next}
 use Rattle.report.specs.Sheet.{mostFrom, most}
-use borrow.Author.Needs.{needs}
-use lib.ListN.{length}
-use native.Mathlib.Omega.{arith}
-use mathlib.Core.List.{[]}
-use mathlib.Core.Path.{_≡_, refl, sym, ap, _∙_}
-use Prim.Native.Nat.{ℕ, suc, _+_, _*_, _-_, _≤_, _<_}
+use Rattle.sheet.proofs.Listing.{Listed, listed-none, listed-more, listed-all, listed-as}
 use Rattle.sheet.proofs.compose.most_numbers.Statement.{statement}
 use Rattle.sheet.proofs.compose.most_numbers.Tie as tie
 

@@ -1,9 +1,9 @@
 -- `sheet::compose::named` meets its contract: the number follows the word, and the line feed the number.
 -- Assumes nothing.
-use Rattle.text.proofs.Writing.{follows-more}
-use Rattle.text.proofs.Decimal.{decimal-few}
 use native.Mathlib.Omega.{arith}
 use borrow.Author.Needs.{needs}
+use Rattle.text.proofs.Writing.{follows-more}
+use Rattle.text.proofs.Decimal.{decimal-few}
 use Rattle.sheet.proofs.compose.named.Statement.{statement}
 use Rattle.sheet.proofs.compose.named.Tie as tie
 

@@ -1,10 +1,10 @@
 -- `sheet::compose::number` meets its contract: a number has no more than twenty digits, so it is put.
 -- Assumes nothing.
-use Rattle.sheet.proofs.Writing.{put-follows}
-use Rattle.text.proofs.Decimal.{decimal-few}
-use Rattle.text.specs.Decimal.{decimal}
 use native.Mathlib.Omega.{arith}
 use borrow.Author.Needs.{needs}
+use Rattle.text.proofs.Decimal.{decimal-few}
+use Rattle.text.specs.Decimal.{decimal}
+use Rattle.sheet.proofs.Writing.{put-follows}
 use Rattle.sheet.proofs.compose.number.Statement.{statement}
 use Rattle.sheet.proofs.compose.number.Tie as tie
 

@@ -1,15 +1,15 @@
 -- `sheet::compose::row` meets its contract: the figures follow the number of the task, and the line feed the figures.
 -- Assumes nothing.
-use Rattle.sheet.proofs.Writing.{spaced-line}
-use Rattle.sheet.specs.Text.{figuresIn, rowText}
+use Prim.Native.Nat.{ℕ}
+use mathlib.Core.List.{List, _++_}
+use mathlib.Core.Path.{sym, ap}
+use native.Mathlib.Omega.{arith}
+use borrow.Author.Needs.{needs}
 use Rattle.text.proofs.Writing.{follows-more, follows-as}
 use Rattle.text.proofs.Decimal.{decimal-few}
 use Rattle.text.specs.Decimal.{decimal}
-use Prim.Native.Nat.{ℕ}
-use native.Mathlib.Omega.{arith}
-use mathlib.Core.List.{List, _++_}
-use mathlib.Core.Path.{sym, ap}
-use borrow.Author.Needs.{needs}
+use Rattle.sheet.specs.Text.{figuresIn, rowText}
+use Rattle.sheet.proofs.Writing.{spaced-line}
 use Rattle.sheet.proofs.compose.row.Statement.{statement}
 use Rattle.sheet.proofs.compose.row.Tie as tie
 

@@ -1,14 +1,14 @@
 -- `sheet::compose::rows` meets its contract. The loop's invariant: the rows of the tasks passed stand, each of at most 77 bytes. The measure is how many are left.
 -- Assumes nothing.
-use Rattle.sheet.proofs.Writing.{rows-more}
-use Rattle.sheet.specs.Text.{rowsText}
+use Prim.Native.Nat.{ℕ, _+_, _*_, _-_, _≤_}
+use mathlib.Core.Path.{_≡_, refl, sym, ap}
+use native.Mathlib.Omega.{arith}
+use lib.ListN.{length}
+use borrow.Author.Needs.{needs}
 use Rattle.text.proofs.Writing.{follows-more, follows-as, follows-none}
 use Rattle.text.specs.Written.{Follows}
-use borrow.Author.Needs.{needs}
-use lib.ListN.{length}
-use native.Mathlib.Omega.{arith}
-use mathlib.Core.Path.{_≡_, refl, sym, ap}
-use Prim.Native.Nat.{ℕ, _+_, _*_, _-_, _≤_}
+use Rattle.sheet.specs.Text.{rowsText}
+use Rattle.sheet.proofs.Writing.{rows-more}
 use Rattle.sheet.proofs.compose.rows.Statement.{statement}
 use Rattle.sheet.proofs.compose.rows.Tie as tie
 

@@ -1,9 +1,9 @@
 -- `sheet::compose::sheet_text` meets its contract: the lines after the rows follow the lines up to them.
 -- Assumes nothing.
-use Rattle.sheet.specs.Text.{sheetText}
-use Rattle.text.proofs.Writing.{follows-more}
 use native.Mathlib.Omega.{arith}
 use borrow.Author.Needs.{needs}
+use Rattle.text.proofs.Writing.{follows-more}
+use Rattle.sheet.specs.Text.{sheetText}
 use Rattle.sheet.proofs.compose.sheet_text.Statement.{statement}
 use Rattle.sheet.proofs.compose.sheet_text.Tie as tie
 

@@ -1,9 +1,9 @@
 -- `sheet::compose::spaced` meets its contract: a number of at most ten digits follows the space.
 -- Assumes nothing.
-use Rattle.text.proofs.Writing.{follows-more}
-use Rattle.text.proofs.Decimal.{decimal-few}
 use native.Mathlib.Omega.{arith}
 use borrow.Author.Needs.{needs}
+use Rattle.text.proofs.Writing.{follows-more}
+use Rattle.text.proofs.Decimal.{decimal-few}
 use Rattle.sheet.proofs.compose.spaced.Statement.{statement}
 use Rattle.sheet.proofs.compose.spaced.Tie as tie
 

@@ -1,8 +1,8 @@
 -- `sheet::compose::word` meets its contract: the word has room, so it is put.
 -- Assumes nothing.
-use Rattle.sheet.proofs.Writing.{put-follows}
 use native.Mathlib.Omega.{arith}
 use borrow.Author.Needs.{needs}
+use Rattle.sheet.proofs.Writing.{put-follows}
 use Rattle.sheet.proofs.compose.word.Statement.{statement}
 use Rattle.sheet.proofs.compose.word.Tie as tie
 

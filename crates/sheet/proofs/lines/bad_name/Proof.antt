@@ -1,11 +1,11 @@
 -- `sheet::lines::bad_name` meets its contract: what stands before the name, the name and the line feed are the line.
 -- Assumes nothing.
-use Rattle.sheet.proofs.Writing.{bad-parts}
-use Rattle.text.proofs.Writing.{line-is}
-use lib.Seq.{length-take-le}
+use mathlib.Core.Path.{sym}
 use native.Mathlib.Omega.{arith}
-use mathlib.Core.Path.{sym, ap, _∙_}
+use lib.Seq.{length-take-le}
 use borrow.Author.Needs.{needs}
+use Rattle.text.proofs.Writing.{line-is}
+use Rattle.sheet.proofs.Writing.{bad-parts}
 use Rattle.sheet.proofs.lines.bad_name.Statement.{statement}
 use Rattle.sheet.proofs.lines.bad_name.Tie as tie
 

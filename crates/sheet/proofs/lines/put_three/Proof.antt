@@ -1,10 +1,10 @@
 -- `sheet::lines::put_three` meets its contract: with room for all three they are put one after another, and else nothing is.
 -- Assumes nothing.
-use Rattle.sheet.proofs.Writing.{size-three, three-put}
-use Rattle.text.proofs.Writing.{refused}
-use native.Mathlib.Omega.{arith}
 use mathlib.Core.List.{_++_}
+use native.Mathlib.Omega.{arith}
 use borrow.Author.Needs.{needs}
+use Rattle.text.proofs.Writing.{refused}
+use Rattle.sheet.proofs.Writing.{size-three, three-put}
 use Rattle.sheet.proofs.lines.put_three.Statement.{statement}
 use Rattle.sheet.proofs.lines.put_three.Tie as tie
 

@@ -1,10 +1,10 @@
 -- `sheet::lines::sheet` meets its contract: the composed sheet is put as a word is.
 -- Assumes nothing.
-use Rattle.text.proofs.Writing.{line-is}
-use lib.Seq.{length-take-le}
-use native.Mathlib.Omega.{arith}
 use mathlib.Core.Path.{sym}
+use native.Mathlib.Omega.{arith}
+use lib.Seq.{length-take-le}
 use borrow.Author.Needs.{needs}
+use Rattle.text.proofs.Writing.{line-is}
 use Rattle.sheet.proofs.lines.sheet.Statement.{statement}
 use Rattle.sheet.proofs.lines.sheet.Tie as tie
 

@@ -1,7 +1,7 @@
 -- `sheet::overall::middle` meets its contract: the number at that place of the waits kept.
 -- Assumes nothing.
-use Rattle.report.specs.Sheet.{middle}
 use borrow.Author.Needs.{needs}
+use Rattle.report.specs.Sheet.{middle}
 use Rattle.sheet.proofs.overall.middle.Statement.{statement}
 use Rattle.sheet.proofs.overall.middle.Tie as tie
 

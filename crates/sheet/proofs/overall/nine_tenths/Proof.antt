@@ -1,7 +1,7 @@
 -- `sheet::overall::nine_tenths` meets its contract: the number at that place of the waits kept.
 -- Assumes nothing.
-use Rattle.report.specs.Sheet.{nineTenths}
 use borrow.Author.Needs.{needs}
+use Rattle.report.specs.Sheet.{nineTenths}
 use Rattle.sheet.proofs.overall.nine_tenths.Statement.{statement}
 use Rattle.sheet.proofs.overall.nine_tenths.Tie as tie
 

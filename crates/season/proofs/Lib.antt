@@ -1,0 +1,2 @@
+-- The theorems of a season of logs, and the laws that they share.
+pub mod Laws

@@ -1,2 +1,3 @@
 -- The theorems of a season of logs, and the laws that they share.
 pub mod Laws
+pub mod Windows

@@ -2,3 +2,4 @@
 pub mod Next
 pub mod Turn
 pub mod Window
+pub mod Windows

@@ -1,3 +1,4 @@
 -- The theorems of a season of logs, and the laws that they share.
 pub mod Laws
 pub mod Windows
+pub mod Log

@@ -3,3 +3,4 @@ pub mod Next
 pub mod Turn
 pub mod Window
 pub mod Windows
+pub mod Log

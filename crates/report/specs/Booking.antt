@@ -16,7 +16,7 @@ use Rattle.rules.specs.declared.Admission.{Admission}
 use Rattle.rules.specs.declared.Answer.{Answer}
 use Rattle.rules.specs.Answers.{number}
 use Rattle.rules.specs.Ranking.{byPriority}
-use Rattle.rules.specs.Tasks.{noTask}
+use Rattle.rules.specs.Tasks.{noTerms, noTask}
 use Rattle.rules.specs.Setup.{setupNumber, sameSetup, fresh, noSession}
 use Rattle.rules.specs.Events.{step}
 use Rattle.rules.specs.History.{noAdmission, isRelease, isCommit, isWait}
@@ -27,7 +27,11 @@ use Rattle.report.specs.declared.WithOpened.{WithOpened}
 use Rattle.report.specs.declared.WithBooked.{WithBooked}
 use Rattle.report.specs.Items.{Item, commit, wait, noFigures, entered, enterable, waitsBooked, waitsIn, written}
 
--- a tally into which nothing has been booked
+-- a setup that names nothing
+abbrev pub noSetup : Setup
+noSetup = record { m = 0; n = 0; terms = replicate 64 noTerms }
+
+-- a tally into which nothing has been booked; the setup in it is not looked at
 unfoldable pub emptyTally : Setup → Tally
 emptyTally u = record { taken = false; setup = u; figures = replicate 64 noFigures }
 

@@ -1,0 +1,2 @@
+-- A part of a window's bytes.
+pub mod Part

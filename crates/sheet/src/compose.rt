@@ -9,8 +9,6 @@ ghost use Rattle.text.specs.Written.{putNext, Follows};
 ghost use Rattle.sheet.specs.Text.{spacedText, figuresIn, rowText, rowsText, mostText, headText, footText, sheetText, badFront};
 use crate::order::most_key;
 use crate::order::most_next;
-use crate::overall::middle;
-use crate::overall::nine_tenths;
 use report::Figures;
 use report::Tally;
 use text::Put;
@@ -184,8 +182,8 @@ pub(crate) fn sheet_text(line: &mut [u8], logs: u32, t: Tally, row: &[u32], left
 {
     let all = t.figures;
     let n = rows_of(t.setup.n);
-    let half = middle(t, row);
-    let nine = nine_tenths(t, row);
+    let half = waits::middle(t, row);
+    let nine = waits::nine_tenths(t, row);
     let next = head(line, logs, all, n);
     foot(line, next, half, nine, all, n, left)
 }

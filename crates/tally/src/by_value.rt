@@ -10,7 +10,6 @@ use crate::entry::enter_commit;
 use crate::entry::enter_waits;
 use crate::entry::number_of;
 use crate::entry::waited_after;
-use crate::entry::waits_booked;
 use crate::entry::write_waits;
 use report::Booked;
 use report::Figures;
@@ -163,7 +162,7 @@ pub fn booking(t: Tally, row: &mut [u32], o: OpenSession, e: Event) -> WithBooke
             },
         };
     }
-    write_waits(row, waits_booked(figures), tasks, e.tick, admitted);
+    write_waits(row, waits::waits_booked(figures), tasks, e.tick, admitted);
     let setup = t.setup;
     let figures_after = x.figures;
     WithBooked {

@@ -1,10 +1,10 @@
 // What one event books.
 ghost use mathlib.Core.Path.{_≡_};
 ghost use mathlib.Core.Bool.{true};
-ghost use Prim.Native.Nat.{_<_, _-_, _^_, min};
+ghost use Prim.Native.Nat.{_<_, _-_, _^_};
 ghost use Rattle.rules.specs.Answers.{number};
 ghost use Rattle.rules.specs.History.{isCommit, isRelease, isWait};
-ghost use Rattle.report.specs.Items.{entered, enterable, waitsBooked, waitsIn, written};
+ghost use Rattle.report.specs.Items.{entered, enterable, waitsIn, written};
 ghost use Rattle.report.specs.Booking.{ticksOf, waitItems, commitItems, waitedAfter};
 ghost use Rattle.tally.specs.Parts.{Inside};
 use crate::item::with_commit;
@@ -177,26 +177,6 @@ pub(crate) fn enter_waits(
     }
 }
 
-// How many waits are booked, of all tasks.
-pub(crate) fn waits_booked(figures: [Figures; 64]) -> usize
-    ensures is { λ x. ⌜ x ≡ waitsBooked figures ⌝ }
-    ensures fits { λ x. ⌜ x < 2 ^ 40 ⌝ }
-{
-    let mut total: usize = 0;
-    for i in 0..64 {
-        let f = figures[i];
-        total += f.waits as usize;
-    }
-    total
-}
-
-// The places of a row of this length that waits go to.
-fn places_in(size: usize) -> usize
-    ensures { λ places. ⌜ places ≡ min 4096 size ⌝ }
-{
-    if size < 4096 { size } else { 4096 }
-}
-
 // Writes the waits that a scan ended into the row, the first of them as wait number `from`.
 pub(crate) fn write_waits(
     row: &mut [u32],
@@ -208,7 +188,7 @@ pub(crate) fn write_waits(
     requires { ⌜ Inside admitted × (from < 2 ^ 40) ⌝ }
     ensures { λ _. ⌜ now (row .exit) ≡ written (now (row .entry)) from (waitsIn (waitItems tasks tick (admitted .list) (admitted .count))) ⌝ }
 {
-    let places = places_in(row.len());
+    let places = waits::places_in(row.len());
     if places == 0 {
         return;
     }

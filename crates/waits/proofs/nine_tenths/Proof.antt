@@ -1,9 +1,9 @@
--- `sheet::overall::nine_tenths` meets its contract: the number at that place of the waits kept.
+-- `waits::nine_tenths` meets its contract: the number at that place of the waits kept.
 -- Assumes nothing.
 use borrow.Author.Needs.{needs}
 use Rattle.report.specs.Sheet.{nineTenths}
-use Rattle.sheet.proofs.overall.nine_tenths.Statement.{statement}
-use Rattle.sheet.proofs.overall.nine_tenths.Tie as tie
+use Rattle.waits.proofs.nine_tenths.Statement.{statement}
+use Rattle.waits.proofs.nine_tenths.Tie as tie
 
 kept-in-requires : tie.Need-kept-in-requires
 kept-in-requires c κs = search needs

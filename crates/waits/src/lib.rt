@@ -1,6 +1,6 @@
-// The figures that are over all tasks: from a tally and its row.
+// The waits that are booked: how many they are, where in the row they go, and the wait at the middle and at nine tenths of those that the row holds.
 ghost use mathlib.Core.Path.{_≡_};
-ghost use Prim.Native.Nat.{min};
+ghost use Prim.Native.Nat.{_<_, _^_, min};
 ghost use Rattle.report.specs.Items.{waitsBooked};
 ghost use Rattle.report.specs.Sheet.{keptIn, middle, nineTenths};
 use report::Figures;
@@ -8,8 +8,9 @@ use report::Tally;
 use rising::in_rising;
 
 // How many waits are booked, of all tasks.
-fn waits_booked(figures: [Figures; 64]) -> usize
-    ensures { λ x. ⌜ x ≡ waitsBooked figures ⌝ }
+pub fn waits_booked(figures: [Figures; 64]) -> usize
+    ensures is { λ x. ⌜ x ≡ waitsBooked figures ⌝ }
+    ensures fits { λ x. ⌜ x < 2 ^ 40 ⌝ }
 {
     let mut total: usize = 0;
     for i in 0..64 {
@@ -25,11 +26,18 @@ fn lesser(a: usize, b: usize) -> usize
     if a < b { a } else { b }
 }
 
+// The places that waits go to, of a row that has so many.
+pub fn places_in(size: usize) -> usize
+    ensures { λ places. ⌜ places ≡ min 4096 size ⌝ }
+{
+    lesser(4096, size)
+}
+
 // How many of the last waits the row holds, from its front on.
 fn kept_in(figures: [Figures; 64], row: &[u32]) -> usize
     ensures { λ k. ⌜ k ≡ keptIn figures (now (row .entry)) ⌝ }
 {
-    lesser(lesser(4096, row.len()), waits_booked(figures))
+    lesser(places_in(row.len()), waits_booked(figures))
 }
 
 // The wait at the middle of the last waits, in rising order.

@@ -1,9 +1,9 @@
--- `sheet::overall::middle` meets its contract: the number at that place of the waits kept.
+-- `waits::middle` meets its contract: the number at that place of the waits kept.
 -- Assumes nothing.
 use borrow.Author.Needs.{needs}
 use Rattle.report.specs.Sheet.{middle}
-use Rattle.sheet.proofs.overall.middle.Statement.{statement}
-use Rattle.sheet.proofs.overall.middle.Tie as tie
+use Rattle.waits.proofs.middle.Statement.{statement}
+use Rattle.waits.proofs.middle.Tie as tie
 
 kept-in-requires : tie.Need-kept-in-requires
 kept-in-requires c κs = search needs

@@ -1,4 +1,4 @@
--- `tally::entry::waits_booked` meets its contract. The loop's invariant: total is the sum of the waits of the tasks passed, at most the largest for each. The measure is
+-- `waits::waits_booked` meets its contract. The loop's invariant: total is the sum of the waits of the tasks passed, at most the largest for each. The measure is
 -- what is left of the tasks. Assumes nothing.
 use Prim.Native.Nat.{ℕ, _+_, _-_, _*_, _≤_}
 use mathlib.Core.Path.{_≡_, sym, ap, ap₂, _∙_}
@@ -7,8 +7,8 @@ use borrow.Author.Needs.{needs}
 use Rattle.objects.specs.Below.{sum}
 use Rattle.objects.proofs.Laws.Below.{sum-empty, sum-more}
 use Rattle.report.specs.Items.{figuresAt, waitsBooked}
-use Rattle.tally.proofs.entry.waits_booked.Statement.{statement}
-use Rattle.tally.proofs.entry.waits_booked.Tie as tie
+use Rattle.waits.proofs.waits_booked.Statement.{statement}
+use Rattle.waits.proofs.waits_booked.Tie as tie
 
 abbrev Inv-loop : tie.InvT-loop
 Inv-loop figures total₀ i₀ total i = (i ≤ 64) × (total ≡ sum i (λ j. figuresAt figures j .waits)) × (total ≤ i * 4294967295)

@@ -3,7 +3,6 @@
 use mathlib.Core.List.{_∷_, append-nil}
 use mathlib.Core.Path.{sym}
 use native.Mathlib.Omega.{arith}
-use borrow.Author.Needs.{needs}
 use Rattle.text.proofs.Writing.{follows-more, follows-as}
 use Rattle.text.specs.Decimal.{decimal}
 use Rattle.sheet.specs.Text.{spacedText}
@@ -11,25 +10,25 @@ use Rattle.sheet.proofs.compose.figures.Statement.{statement}
 use Rattle.sheet.proofs.compose.figures.Tie as tie
 
 spaced-requires : tie.Need-spaced-requires
-spaced-requires c κs = search needs
+spaced-requires c κs = omega arith
 
 spaced-requires-2 : tie.Need-spaced-requires-2
-spaced-requires-2 c κs = search needs
+spaced-requires-2 c κs = omega arith
 
 spaced-requires-3 : tie.Need-spaced-requires-3
-spaced-requires-3 c κs = search needs
+spaced-requires-3 c κs = omega arith
 
 spaced-requires-4 : tie.Need-spaced-requires-4
-spaced-requires-4 c κs = search needs
+spaced-requires-4 c κs = omega arith
 
 spaced-requires-5 : tie.Need-spaced-requires-5
-spaced-requires-5 c κs = search needs
+spaced-requires-5 c κs = omega arith
 
 spaced-requires-6 : tie.Need-spaced-requires-6
-spaced-requires-6 c κs = search needs
+spaced-requires-6 c κs = omega arith
 
 same-length : tie.Need-same-length
-same-length c = search needs
+same-length c = omega arith
 
 returns : tie.Need-returns
 unfolding spacedText

@@ -11,25 +11,25 @@ slice-aggregate-named : tie.Need-slice-aggregate-named
 slice-aggregate-named c = search needs
 
 named-requires : tie.Need-named-requires
-named-requires c κs = search needs
+named-requires c κs = omega arith
 
 slice-aggregate-named-2 : tie.Need-slice-aggregate-named-2
 slice-aggregate-named-2 c = search needs
 
 named-requires-2 : tie.Need-named-requires-2
-named-requires-2 c κs = search needs
+named-requires-2 c κs = omega arith
 
 most-line-requires : tie.Need-most-line-requires
-most-line-requires c κs = search needs
+most-line-requires c κs = (omega arith, omega arith)
 
 slice-aggregate-named-3 : tie.Need-slice-aggregate-named-3
 slice-aggregate-named-3 c = search needs
 
 named-requires-3 : tie.Need-named-requires-3
-named-requires-3 c κs = search needs
+named-requires-3 c κs = omega arith
 
 same-length : tie.Need-same-length
-same-length c = search needs
+same-length c = omega arith
 
 returns : tie.Need-returns
 unfolding footText

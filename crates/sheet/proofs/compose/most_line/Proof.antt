@@ -16,7 +16,7 @@ slice-aggregate-word : tie.Need-slice-aggregate-word
 slice-aggregate-word c = search needs
 
 word-requires : tie.Need-word-requires
-word-requires c κs = search needs
+word-requires c κs = omega arith
 
 most-numbers-requires : tie.Need-most-numbers-requires
 most-numbers-requires c κs = search needs
@@ -25,10 +25,10 @@ slice-aggregate-word-2 : tie.Need-slice-aggregate-word-2
 slice-aggregate-word-2 c = search needs
 
 word-requires-2 : tie.Need-word-requires-2
-word-requires-2 c κs = search needs
+word-requires-2 c κs = omega arith
 
 same-length : tie.Need-same-length
-same-length c = search needs
+same-length c = omega arith
 
 returns : tie.Need-returns
 unfolding mostText

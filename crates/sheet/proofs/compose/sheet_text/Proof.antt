@@ -17,13 +17,13 @@ nine-tenths-requires : tie.Need-nine-tenths-requires
 nine-tenths-requires c κs = search needs
 
 head-requires : tie.Need-head-requires
-head-requires c κs = search needs
+head-requires c κs = (omega arith, omega arith)
 
 foot-requires : tie.Need-foot-requires
-foot-requires c κs = search needs
+foot-requires c κs = (omega arith, omega arith)
 
 same-length : tie.Need-same-length
-same-length c = search needs
+same-length c = omega arith
 
 returns : tie.Need-returns
 unfolding sheetText

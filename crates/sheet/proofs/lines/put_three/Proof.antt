@@ -14,7 +14,7 @@ returns c =
     refused (a .buf .now) (a .at) (a .a .now ++ a .b .now ++ a .c .now) (omega (arith, size-three (a .a .now) (a .b .now) (a .c .now)))
 
 sub-if2 : tie.Need-sub-if2
-sub-if2 c = search needs
+sub-if2 c = omega arith
 
 returns-2 : tie.Need-returns-2
 returns-2 c =
@@ -22,10 +22,10 @@ returns-2 c =
     refused (a .buf .now) (a .at) (a .a .now ++ a .b .now ++ a .c .now) (omega (arith, size-three (a .a .now) (a .b .now) (a .c .now)))
 
 add-second : tie.Need-add-second
-add-second c = search needs
+add-second c = omega arith
 
 sub-if3 : tie.Need-sub-if3
-sub-if3 c = search needs
+sub-if3 c = omega arith
 
 returns-3 : tie.Need-returns-3
 returns-3 c =
@@ -33,10 +33,10 @@ returns-3 c =
     refused (a .buf .now) (a .at) (a .a .now ++ a .b .now ++ a .c .now) (omega (arith, size-three (a .a .now) (a .b .now) (a .c .now)))
 
 add-third : tie.Need-add-third
-add-third c = search needs
+add-third c = omega arith
 
 sub-if4 : tie.Need-sub-if4
-sub-if4 c = search needs
+sub-if4 c = omega arith
 
 returns-4 : tie.Need-returns-4
 returns-4 c =
@@ -53,7 +53,7 @@ put-word-requires-3 : tie.Need-put-word-requires-3
 put-word-requires-3 c κs = search needs
 
 same-length : tie.Need-same-length
-same-length c = search needs
+same-length c = omega arith
 
 returns-5 : tie.Need-returns-5
 returns-5 c =

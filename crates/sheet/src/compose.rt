@@ -52,7 +52,7 @@ fn spaced(line: &mut [u8], at: usize, n: u32) -> usize
 }
 
 // A word and a number, to the end of the line.
-pub(crate) fn named(line: &mut [u8], at: usize, name: &[u8], n: u64) -> usize
+fn named(line: &mut [u8], at: usize, name: &[u8], n: u64) -> usize
     requires { ⌜ at + length (now name) + 21 ≤ length (now line) ⌝ }
     ensures is { λ next. ⌜ Follows (now (line .entry)) at (now (name .entry) ++ (decimal n ++ (10 ∷ []))) (now (line .exit)) next ⌝ }
     ensures reaches { λ next. ⌜ next ≤ at + length (now (name .entry)) + 21 ⌝ }
@@ -88,7 +88,7 @@ fn row(line: &mut [u8], at: usize, i: u32, f: Figures) -> usize
 }
 
 // The rows of the first n tasks.
-pub(crate) fn rows(line: &mut [u8], at: usize, all: [Figures; 64], n: usize) -> usize
+fn rows(line: &mut [u8], at: usize, all: [Figures; 64], n: usize) -> usize
     requires { ⌜ (n ≤ 64) × (at + 4937 ≤ length (now line)) ⌝ }
     ensures is { λ next. ⌜ Follows (now (line .entry)) at (rowsText n all) (now (line .exit)) next ⌝ }
     ensures reaches { λ next. ⌜ next ≤ at + 77 * n ⌝ }

@@ -4,11 +4,10 @@ use Prim.Native.Nat.{ℕ}
 use mathlib.Core.Path.{_≡_, refl, sym, ap, ap₂, _∙_}
 use mathlib.Core.Logic.{_⊎_, inl, inr}
 use mathlib.Core.List.{List, [], _∷_, _++_, append-nil}
-use mathlib.Core.Bool.{Bool, true, false, cond, not, _&&_}
+use mathlib.Core.Bool.{Bool, true, false, cond}
 use native.Mathlib.Nat.{zero-add}
 use lib.Dec.{eqb}
 use lib.ListN.{length, take, length-replicate, getD-replicate}
-use borrow.Author.Tests.{eq-eqb, eqb-true}
 use Rattle.objects.proofs.Laws.Below.{all-from}
 use Rattle.rising.specs.Order.{inRising}
 use Rattle.rules.specs.declared.Setup.{Setup}
@@ -16,7 +15,7 @@ use Rattle.rules.specs.declared.Event.{Event}
 use Rattle.rules.specs.declared.Answer.{Answer}
 use Rattle.rules.specs.Answers.{number}
 use Rattle.rules.specs.Ranking.{byPriority}
-use Rattle.rules.specs.Setup.{setupNumber, sameSetup, fresh}
+use Rattle.rules.specs.Setup.{setupNumber, fresh}
 use Rattle.rules.specs.Events.{step}
 use Rattle.rules.specs.History.{Call, heard}
 use Rattle.rules.specs.Demand3.{begun as startsRun}
@@ -24,7 +23,7 @@ use Rattle.rules.proofs.Demand3.{fresh-starts}
 use Rattle.report.specs.declared.Tally.{Tally}
 use Rattle.report.specs.declared.OpenSession.{OpenSession}
 use Rattle.report.specs.Items.{Item, noFigures, entered, enterable, waitsBooked, waitsIn, written}
-use Rattle.report.specs.Booking.{emptyTally, opened, openNumber, opening, items, bookNumber, withFigures, booking, rowAfter}
+use Rattle.report.specs.Booking.{emptyTally, opened, items, bookNumber, withFigures, booking, rowAfter}
 use Rattle.report.specs.Ledger.{hadWaited, booksOf, total, greatest, figuresOf, totalsFit, fitting, bookedWith, bookedBy, ledger, lastOf}
 use Rattle.report.specs.Sheet.{keptOf, middlePlace, ninePlace, keptIn, middle, nineTenths, lastWaits, middleOf, nineTenthsOf}
 use Rattle.report.specs.Row.{SameNumbers}

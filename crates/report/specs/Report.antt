@@ -15,7 +15,7 @@ use Rattle.report.specs.declared.Tally.{Tally}
 use Rattle.report.specs.declared.OpenSession.{OpenSession}
 use Rattle.report.specs.declared.Booked.{Booked}
 use Rattle.report.specs.Items.{figuresAt, waitsIn, written}
-use Rattle.report.specs.Booking.{emptyTally, opened, openNumber, opening, bookNumber, booking, rowAfter}
+use Rattle.report.specs.Booking.{emptyTally, opened, openNumber, opening, booking, rowAfter}
 use Rattle.report.specs.Ledger.{booksOf, figuresOf, fitting, ledger}
 use Rattle.report.specs.Sheet.{middle, nineTenths, middleOf, nineTenthsOf}
 

@@ -1,6 +1,5 @@
 // The two calls by value.
 ghost use mathlib.Core.Path.{_≡_};
-ghost use mathlib.Core.List.{_++_};
 ghost use Prim.Native.Nat.{_<_};
 ghost use Rattle.rules.specs.Answers.{number};
 ghost use Rattle.report.specs.Items.{entered};

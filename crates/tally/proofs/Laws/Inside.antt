@@ -1,12 +1,11 @@
 -- What an answer lists lies within the tables, of any session at all: its scan comes only where m and n are allowed, and names no more than m tasks below n.
 use Prim.Native.Nat.{ℕ, _≤_, _<_, zero-le}
-use mathlib.Core.Path.{_≡_, refl}
+use mathlib.Core.Path.{_≡_}
 use mathlib.Core.Logic.{_≢_}
-use mathlib.Core.Bool.{Bool, true, _&&_, cond}
+use mathlib.Core.Bool.{true, _&&_, cond}
 use native.Mathlib.Nat.{lt-of-lt-of-le, le-trans}
 use native.Mathlib.Omega.{arith}
 use lib.Dec.{leb, ltb}
-use lib.ListN.{getD}
 use borrow.Author.Tests.{ltb-true}
 use Rattle.objects.proofs.Laws.Below.{and-left, and-right}
 use Rattle.rules.specs.declared.Session.{Session}
@@ -16,9 +15,7 @@ use Rattle.rules.specs.declared.Answer.{Answer}
 use Rattle.rules.specs.Answers.{number}
 use Rattle.rules.specs.Ranking.{Ranking}
 use Rattle.rules.specs.Tasks.{allowed, known}
-use Rattle.rules.specs.Scan.{scan}
 use Rattle.rules.specs.Events.{trying, arriveNumber, releaseNumber, commitNumber, finishNumber, refused, still, scanning, step}
-use Rattle.rules.specs.History.{noAdmission}
 use Rattle.rules.proofs.Laws.Numbers.{must, allowed-bounds}
 use Rattle.rules.proofs.Laws.Scan.{scan-few}
 use Rattle.rules.proofs.Laws.Listed.{scan-settled}

@@ -1,6 +1,5 @@
 -- `totals::same_row` is safe and ends. The measure is how many places are left. Assumes nothing.
 use Prim.Native.Nat.{_-_, _≤_}
-use native.Mathlib.Omega.{arith}
 use borrow.Author.Needs.{needs}
 use Rattle.totals.proofs.same_row.Statement.{statement}
 use Rattle.totals.proofs.same_row.Tie as tie

@@ -1,6 +1,5 @@
 -- `totals::same_tally` is safe and ends. The measure is how many tasks are left. Assumes nothing.
 use Prim.Native.Nat.{_-_, _≤_}
-use native.Mathlib.Omega.{arith}
 use borrow.Author.Needs.{needs}
 use Rattle.totals.proofs.same_tally.Statement.{statement}
 use Rattle.totals.proofs.same_tally.Tie as tie

@@ -1,7 +1,7 @@
 -- `waits::waits_booked` meets its contract. The loop's invariant: total is the sum of the waits of the tasks passed, at most the largest for each. The measure is
 -- what is left of the tasks. Assumes nothing.
 use Prim.Native.Nat.{ℕ, _+_, _-_, _*_, _≤_}
-use mathlib.Core.Path.{_≡_, sym, ap, ap₂, _∙_}
+use mathlib.Core.Path.{_≡_, sym, ap, _∙_}
 use native.Mathlib.Omega.{arith}
 use borrow.Author.Needs.{needs}
 use Rattle.objects.specs.Below.{sum}

@@ -3,11 +3,9 @@ use Prim.Native.Nat.{ℕ}
 use mathlib.Core.Path.{_≡_, sym, ap, ap₂, _∙_}
 use mathlib.Core.Bool.{true}
 use borrow.Author.Needs.{needs}
-use Rattle.rules.specs.declared.Session.{Session}
 use Rattle.rules.specs.declared.Started.{Started}
 use Rattle.setup.proofs.Laws.Start.{start-accepted}
 use Rattle.report.specs.declared.OpenSession.{OpenSession}
-use Rattle.report.specs.declared.WithOpened.{WithOpened}
 use Rattle.report.specs.Booking.{opened, openNumber}
 use Rattle.report.proofs.Laws.Opening.{opening-is, opening-refused, opens-setup}
 use Rattle.tally.proofs.by_value.opening.Statement.{statement}

@@ -12,7 +12,7 @@ use Rattle.rules.specs.declared.Said.{Said}
 use Rattle.rules.specs.Answers.{number}
 use Rattle.rules.specs.History.{isCommit}
 use Rattle.report.specs.declared.Figures.{Figures}
-use Rattle.report.specs.Items.{Item, commit, figuresAt, after, fits, enter, entered, enterable}
+use Rattle.report.specs.Items.{Item, commit, figuresAt, fits, entered, enterable}
 use Rattle.report.specs.Booking.{commitItems}
 use Rattle.tally.specs.declared.item.Counted.{Counted}
 use Rattle.tally.specs.Parts.{counted}

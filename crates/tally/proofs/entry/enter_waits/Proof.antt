@@ -1,6 +1,6 @@
 -- `tally::entry::enter_waits` meets its contract. The loop's invariant: the waits passed fit, and the figures are those after them. The measure is what is left of the
 -- admissions. Assumes nothing.
-use Prim.Native.Nat.{ℕ, suc, _+_, _-_, _≤_, _<_}
+use Prim.Native.Nat.{ℕ, suc, _-_, _≤_, _<_}
 use mathlib.Core.Path.{_≡_, refl, sym, ap, _∙_}
 use mathlib.Core.Bool.{Bool, true, false, false≢true}
 use mathlib.Core.List.{List}
@@ -9,12 +9,10 @@ use native.Mathlib.Omega.{arith}
 use lib.ListN.{length, length-set, getD, set}
 use borrow.Author.Needs.{needs}
 use borrow.Author.Tests.{not-true, not-false}
-use Rattle.rules.specs.declared.State.{State}
-use Rattle.rules.specs.Tasks.{noTask}
 use Rattle.rules.specs.History.{noAdmission}
 use Rattle.report.specs.declared.Figures.{Figures}
-use Rattle.report.specs.Items.{Item, wait, after, fits, figuresAt, enter, entered, enterable}
-use Rattle.report.specs.Booking.{ticksOf, waitItem, waitItems}
+use Rattle.report.specs.Items.{Item, wait, fits, figuresAt, enter, entered, enterable}
+use Rattle.report.specs.Booking.{waitItem, waitItems}
 use Rattle.tally.specs.declared.item.Counted.{Counted}
 use Rattle.tally.specs.Parts.{counted}
 use Rattle.tally.proofs.Laws.Counted.{counted-is}

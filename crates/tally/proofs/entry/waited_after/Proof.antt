@@ -1,14 +1,10 @@
 -- `tally::entry::waited_after` meets its contract: an accepted release sets its task's place, and nothing else does. Assumes nothing.
-use mathlib.Core.Path.{_≡_, sym, ap, ap₂, _∙_}
-use mathlib.Core.Logic.{_≢_}
-use mathlib.Core.Bool.{Bool, true, false, cond, _&&_}
-use mathlib.Core.List.{List}
-use lib.Dec.{eqb}
+use mathlib.Core.Path.{_≡_, sym, ap, _∙_}
+use mathlib.Core.Bool.{Bool}
 use lib.ListN.{set}
 use borrow.Author.Needs.{needs}
 use borrow.Author.Tests.{eq-eqb, ne-eqb}
 use Rattle.rules.specs.Answers.{number}
-use Rattle.rules.specs.History.{isRelease}
 use Rattle.tally.proofs.entry.waited_after.Statement.{statement}
 use Rattle.tally.proofs.entry.waited_after.Tie as tie
 

@@ -2,10 +2,12 @@
 -- no count and no figure. Lists of calls and of sessions have the latest first; what is booked stands in its order.
 use Prim.Native.Nat.{ℕ, _+_, _-_, max}
 use mathlib.Core.List.{List, [], _∷_, _++_}
-use mathlib.Core.Bool.{Bool, false, cond, _&&_}
+use mathlib.Core.Bool.{Bool, true, false, cond, _&&_}
 use lib.Dec.{eqb}
 use lib.ListN.{length, drop}
 use Rattle.objects.specs.Below.{one, all}
+use Rattle.rules.specs.declared.Setup.{Setup}
+use Rattle.rules.specs.Setup.{sameSetup}
 use Rattle.rules.specs.History.{Call, accepted, isCommit, isWait, releases, began, lasted, waitLength, passed}
 use Rattle.report.specs.declared.Figures.{Figures}
 use Rattle.report.specs.Items.{Item, commit, wait, within}
@@ -97,11 +99,22 @@ unfolding bookedWith booksOf
 bookedBy booked [] = booked
 bookedBy booked (c ∷ before) = bookedWith (bookedBy booked before) (booksOf c before)
 
+-- a session: its setup, and its events with their answers
+pub record Sitting : Type 0 where
+  pub setup : Setup
+  pub calls : List Call
+
 -- 'a report that takes sessions one after another'
-unfoldable pub ledger : List (List Call) → List Item
+unfoldable pub ledger : List Sitting → List Item
 unfolding bookedBy
 ledger [] = []
-ledger (calls ∷ earlier) = bookedBy (ledger earlier) calls
+ledger (s ∷ earlier) = bookedBy (ledger earlier) (s .calls)
+
+-- 'The setup must be the same in all sessions, m too'
+unfoldable pub allSame : Setup → List Sitting → Bool
+unfolding sameSetup
+allSame u [] = true
+allSame u (s ∷ earlier) = sameSetup u (s .setup) && allSame u earlier
 
 -- the last k of a list
 abbrev pub lastOf : ℕ → List ℕ → List ℕ

@@ -1,7 +1,9 @@
 -- The opening of a session: what it makes where it is refused and where it is not.
-use mathlib.Core.Path.{_≡_, refl}
+use Prim.Native.Nat.{ℕ}
+use mathlib.Core.Path.{_≡_, refl, sym, _∙_}
 use mathlib.Core.Logic.{_≢_}
-use mathlib.Core.Bool.{Bool, true, false, cond, not, _&&_}
+use mathlib.Core.Bool.{Bool, true, false, cond, not, _&&_, false≢true}
+use native.Mathlib.Omega.{arith}
 use lib.Dec.{eqb}
 use borrow.Author.Tests.{eq-eqb, ne-eqb, eqb-true}
 use Rattle.rules.specs.declared.Setup.{Setup}
@@ -24,10 +26,22 @@ pub opening-refused : (t : Tally) (v : Setup) → openNumber t v ≢ 0
 unfolding opening
 opening-refused t v h = rw (ne-eqb (openNumber t v) 0 h)
 
+-- its setup is good
 pub opens-setup : (t : Tally) (v : Setup) → openNumber t v ≡ 0 → setupNumber v ≡ 0
 unfolding openNumber
-opens-setup t v = go (eqb (setupNumber v) 0) refl
+opens-setup t v z = go (eqb (setupNumber v) 0) _ refl z
   where
-    go : (b : Bool) → eqb (setupNumber v) 0 ≡ b → cond b (cond (t .taken && not (sameSetup (t .setup) v)) 40 0) (setupNumber v) ≡ 0 → setupNumber v ≡ 0
-    go true e z = eqb-true (setupNumber v) 0 e
-    go false e z = z
+    go : (b : Bool) (rest : ℕ) → eqb (setupNumber v) 0 ≡ b → cond b rest (setupNumber v) ≡ 0 → setupNumber v ≡ 0
+    go true rest e w = eqb-true (setupNumber v) 0 e
+    go false rest e w = w
+
+-- where a setup has been taken, it is the same
+pub opens-same : (t : Tally) (v : Setup) → openNumber t v ≡ 0 → t .taken ≡ true → sameSetup (t .setup) v ≡ true
+unfolding openNumber
+opens-same t v z taken = go (eqb (setupNumber v) 0) (t .taken) (sameSetup (t .setup) v) refl taken z
+  where
+    go : (b has same : Bool) → eqb (setupNumber v) 0 ≡ b → has ≡ true → cond b (cond (has && not same) 40 0) (setupNumber v) ≡ 0 → same ≡ true
+    go true true true e q w = refl
+    go true true false e q w = absurd (omega (arith, w))
+    go true false same e q w = absurd (false≢true q)
+    go false has same e q w = absurd (false≢true (sym e ∙ eq-eqb (setupNumber v) 0 w))

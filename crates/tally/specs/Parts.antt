@@ -13,6 +13,9 @@ use Rattle.rules.specs.History.{noAdmission}
 use Rattle.report.specs.declared.Figures.{Figures}
 use Rattle.tally.specs.declared.item.Sum.{Sum}
 use Rattle.tally.specs.declared.item.Counted.{Counted}
+use Rattle.report.specs.declared.Tally.{Tally}
+use Rattle.report.specs.declared.OpenSession.{OpenSession}
+use Rattle.report.specs.declared.WithBooked.{WithBooked}
 use Rattle.report.specs.Items.{Item, within, after, fits, enterable}
 use Rattle.report.specs.Booking.{commitItems, waitItems}
 
@@ -42,3 +45,7 @@ itemsIn waited tasks e said admitted = commitItems waited e said ++ waitItems ta
 abbrev pub entryNumber : List Figures → List Bool → List Task → Event → Said → Admissions → ℕ
 entryNumber all waited tasks e said admitted =
     cond (eqb (number said) 0) (cond (enterable all (itemsIn waited tasks e said admitted)) 0 41) (number said)
+
+-- a tally, and the answer to an event
+abbrev pub answered : Tally → ℕ → Said → Admissions → OpenSession → WithBooked
+answered t k said admitted after = record { tally = t; booked = record { number = k; said = said; admitted = admitted; after = after } }

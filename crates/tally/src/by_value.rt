@@ -4,7 +4,7 @@ ghost use Prim.Native.Nat.{_<_};
 ghost use Rattle.rules.specs.Answers.{number};
 ghost use Rattle.report.specs.Items.{entered};
 ghost use Rattle.report.specs.Booking.{opened, openNumber, opening, booking, rowAfter};
-ghost use Rattle.tally.specs.Parts.{Inside, itemsIn, entryNumber};
+ghost use Rattle.tally.specs.Parts.{Inside, itemsIn, entryNumber, answered};
 use crate::entry::enter_commit;
 use crate::entry::enter_waits;
 use crate::entry::number_of;
@@ -131,6 +131,27 @@ fn enter_items(
     }
 }
 
+// A tally, and the answer to an event.
+fn with_answer(
+    t: Tally,
+    number: u8,
+    said: Said,
+    admitted: Admissions,
+    after: OpenSession,
+) -> WithBooked
+    ensures { λ x. ⌜ x ≡ answered t number said admitted after ⌝ }
+{
+    WithBooked {
+        tally: t,
+        booked: Booked {
+            number: number,
+            said: said,
+            admitted: admitted,
+            after: after,
+        },
+    }
+}
+
 // Runs an event in an open session and books it.
 pub fn booking(t: Tally, row: &mut [u32], o: OpenSession, e: Event) -> WithBooked
     ensures is { λ x. ⌜ x ≡ booking t o e ⌝ }
@@ -151,30 +172,15 @@ pub fn booking(t: Tally, row: &mut [u32], o: OpenSession, e: Event) -> WithBooke
     let figures = t.figures;
     let x = enter_items(figures, waited, tasks, e, said, admitted);
     if x.number != 0 {
-        return WithBooked {
-            tally: t,
-            booked: Booked {
-                number: x.number,
-                said: said,
-                admitted: admitted,
-                after: after,
-            },
-        };
+        return with_answer(t, x.number, said, admitted, after);
     }
     write_waits(row, waits::waits_booked(figures), tasks, e.tick, admitted);
     let setup = t.setup;
     let figures_after = x.figures;
-    WithBooked {
-        tally: Tally {
-            taken: t.taken,
-            setup: setup,
-            figures: figures_after,
-        },
-        booked: Booked {
-            number: 0,
-            said: said,
-            admitted: admitted,
-            after: after,
-        },
-    }
+    let tally = Tally {
+        taken: t.taken,
+        setup: setup,
+        figures: figures_after,
+    };
+    with_answer(tally, 0, said, admitted, after)
 }

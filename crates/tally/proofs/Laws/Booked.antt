@@ -20,7 +20,7 @@ use Rattle.report.specs.declared.WithBooked.{WithBooked}
 use Rattle.report.specs.Items.{Item, commit, entered, waitsBooked, waitsIn, written}
 use Rattle.report.specs.Booking.{waitItems, commitItems, items, waitedAfter, bookNumber, withFigures, booking, rowAfter}
 use Rattle.report.proofs.Laws.Writing.{waits-append}
-use Rattle.tally.specs.Parts.{itemsIn, entryNumber}
+use Rattle.tally.specs.Parts.{itemsIn, entryNumber, answered}
 
 -- a commit is no wait
 commit-waits : (b : Bool) (i : ℕ) (waited : Bool) → waitsIn (cond b (commit i waited ∷ []) []) ≡ []
@@ -44,10 +44,7 @@ module _ (t : Tally) (o : OpenSession) (e : Event) where
 
   -- what a function answers that has these parts
   abbrev made : Tally → ℕ → Answer → List Bool → WithBooked
-  made t′ k a waited = record {
-    tally = t′;
-    booked = record { number = k; said = a .said; admitted = a .admitted; after = record { session = a .session; waited = waited } };
-  }
+  made t′ k a waited = answered t′ k (a .said) (a .admitted) (record { session = a .session; waited = waited })
 
   number-is : bookNumber t o e ≡ numberOf answer
   unfolding bookNumber items

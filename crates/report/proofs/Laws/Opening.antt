@@ -1,14 +1,15 @@
 -- The opening of a session: what it makes where it is refused and where it is not.
 use Prim.Native.Nat.{ℕ}
-use mathlib.Core.Path.{_≡_, refl, sym, _∙_}
+use mathlib.Core.Path.{_≡_, refl, sym, ap, _∙_}
 use mathlib.Core.Logic.{_≢_}
 use mathlib.Core.Bool.{Bool, true, false, cond, not, _&&_, false≢true}
 use native.Mathlib.Omega.{arith}
 use lib.Dec.{eqb}
-use borrow.Author.Tests.{eq-eqb, ne-eqb, eqb-true}
+use borrow.Author.Tests.{eq-eqb, ne-eqb, eqb-true, eqb-false}
 use Rattle.rules.specs.declared.Setup.{Setup}
 use Rattle.rules.specs.Setup.{setupNumber, sameSetup, fresh, noSession}
 use Rattle.report.specs.declared.Tally.{Tally}
+use Rattle.report.specs.declared.WithOpened.{WithOpened}
 use Rattle.report.specs.Booking.{opened, openNumber, opening}
 
 -- an opening that is not refused
@@ -25,6 +26,16 @@ pub opening-refused : (t : Tally) (v : Setup) → openNumber t v ≢ 0
     → opening t v ≡ record { tally = t; opened = record { number = openNumber t v; after = opened noSession } }
 unfolding opening
 opening-refused t v h = rw (ne-eqb (openNumber t v) 0 h)
+
+-- the number that is answered
+pub opening-number : (t : Tally) (v : Setup) → opening t v .opened .number ≡ openNumber t v
+opening-number t v = go (eqb (openNumber t v) 0) refl
+  where
+    go : (b : Bool) → eqb (openNumber t v) 0 ≡ b → opening t v .opened .number ≡ openNumber t v
+    go true e =
+        let z : openNumber t v ≡ 0 = eqb-true (openNumber t v) 0 e in
+        ap (λ (x : WithOpened). x .opened .number) (opening-is t v z) ∙ sym z
+    go false e = ap (λ (x : WithOpened). x .opened .number) (opening-refused t v (eqb-false (openNumber t v) 0 e))
 
 -- its setup is good
 pub opens-setup : (t : Tally) (v : Setup) → openNumber t v ≡ 0 → setupNumber v ≡ 0

@@ -7,8 +7,11 @@ use report::Figures;
 use report::Tally;
 use rising::in_rising;
 
+// The figures of all tasks.
+pub type AllFigures = [Figures; 64];
+
 // How many waits are booked, of all tasks.
-pub fn waits_booked(figures: [Figures; 64]) -> usize
+pub fn waits_booked(figures: AllFigures) -> usize
     ensures is { λ x. ⌜ x ≡ waitsBooked figures ⌝ }
     ensures fits { λ x. ⌜ x < 2 ^ 40 ⌝ }
 {
@@ -34,7 +37,7 @@ pub fn places_in(size: usize) -> usize
 }
 
 // How many of the last waits the row holds, from its front on.
-fn kept_in(figures: [Figures; 64], row: &[u32]) -> usize
+fn kept_in(figures: AllFigures, row: &[u32]) -> usize
     ensures { λ k. ⌜ k ≡ keptIn figures (now (row .entry)) ⌝ }
 {
     lesser(places_in(row.len()), waits_booked(figures))

@@ -13,6 +13,7 @@ use Rattle.rules.specs.declared.Session.{Session}
 use Rattle.rules.specs.declared.Event.{Event}
 use Rattle.rules.specs.declared.Said.{Said}
 use Rattle.rules.specs.declared.Admission.{Admission}
+use Rattle.rules.specs.declared.Admissions.{Admissions}
 use Rattle.rules.specs.declared.Answer.{Answer}
 use Rattle.rules.specs.Answers.{number}
 use Rattle.rules.specs.Ranking.{byPriority}
@@ -79,22 +80,27 @@ waitItems tasks tick list (suc k) = waitItems tasks tick list k ++ (waitItem tas
 abbrev pub commitItems : List Bool → Event → Said → List Item
 commitItems waited e said = cond (eqb (number said) 0 && isCommit (e .kind)) (commit (e .task) (getD waited (e .task) false) ∷ []) []
 
--- what an event with this answer books: its commit, and then the waits that its scan ended
+-- what an event books that was answered so: its commit, and then the waits that its scan ended
+abbrev pub itemsIn : List Bool → List Task → Event → Said → Admissions → List Item
+itemsIn waited tasks e said admitted = commitItems waited e said ++ waitItems tasks (e .tick) (admitted .list) (admitted .count)
+
 unfoldable pub items : OpenSession → Event → Answer → List Item
 unfolding waitItems
-items o e a =
-    commitItems (o .waited) e (a .said) ++ waitItems (o .session .tasks) (e .tick) (a .admitted .list) (a .admitted .count)
+items o e a = itemsIn (o .waited) (o .session .tasks) e (a .said) (a .admitted)
 
 -- whether the transaction that each task released last had to wait, after an event with this answer
 abbrev pub waitedAfter : List Bool → Event → Said → List Bool
 waitedAfter waited e said = cond (eqb (number said) 0 && isRelease (e .kind)) (set waited (e .task) (isWait said)) waited
 
 -- the manager's own refusal; then '41, a total would pass 4,294,967,295, tried last'
+abbrev pub entryNumber : List Figures → ℕ → List Item → ℕ
+entryNumber all refusal new = cond (eqb refusal 0) (cond (enterable all new) 0 41) refusal
+
 unfoldable pub bookNumber : Tally → OpenSession → Event → ℕ
 unfolding step byPriority items enterable
 bookNumber t o e =
     let a = step byPriority (o .session) e in
-    cond (eqb (number (a .said)) 0) (cond (enterable (t .figures) (items o e a)) 0 41) (number (a .said))
+    entryNumber (t .figures) (number (a .said)) (items o e a)
 
 abbrev pub withFigures : Tally → List Figures → Tally
 withFigures t figures = record { taken = t .taken; setup = t .setup; figures = figures }

@@ -1,11 +1,7 @@
 -- Parts of a booking, as the functions that make them say them.
 use Prim.Native.Nat.{ℕ, _+_, _≤_, _<_}
 use mathlib.Core.Bool.{Bool, false, cond}
-use mathlib.Core.List.{List, _++_}
-use lib.Dec.{eqb}
 use lib.ListN.{getD}
-use Rattle.rules.specs.declared.Task.{Task}
-use Rattle.rules.specs.declared.Event.{Event}
 use Rattle.rules.specs.declared.Said.{Said}
 use Rattle.rules.specs.declared.Admissions.{Admissions}
 use Rattle.rules.specs.Answers.{number}
@@ -16,8 +12,7 @@ use Rattle.tally.specs.declared.item.Counted.{Counted}
 use Rattle.report.specs.declared.Tally.{Tally}
 use Rattle.report.specs.declared.OpenSession.{OpenSession}
 use Rattle.report.specs.declared.WithBooked.{WithBooked}
-use Rattle.report.specs.Items.{Item, within, after, fits, enterable}
-use Rattle.report.specs.Booking.{commitItems, waitItems}
+use Rattle.report.specs.Items.{Item, within, after, fits}
 
 -- so much more, where it fits
 abbrev pub added : ℕ → ℕ → Sum
@@ -37,14 +32,6 @@ passing f = record { fits = false; figures = f }
 -- what is listed lies within the tables
 abbrev pub Inside : Admissions → Type 0
 Inside a = (a .count ≤ 16) × ((k : ℕ) → k < a .count → getD (a .list) k noAdmission .task < 64)
-
--- what an event books that was answered so, and the number that refuses the event or its booking
-abbrev pub itemsIn : List Bool → List Task → Event → Said → Admissions → List Item
-itemsIn waited tasks e said admitted = commitItems waited e said ++ waitItems tasks (e .tick) (admitted .list) (admitted .count)
-
-abbrev pub entryNumber : List Figures → List Bool → List Task → Event → Said → Admissions → ℕ
-entryNumber all waited tasks e said admitted =
-    cond (eqb (number said) 0) (cond (enterable all (itemsIn waited tasks e said admitted)) 0 41) (number said)
 
 -- a tally, and the answer to an event
 abbrev pub answered : Tally → ℕ → Said → Admissions → OpenSession → WithBooked

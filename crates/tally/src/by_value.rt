@@ -3,8 +3,8 @@ ghost use mathlib.Core.Path.{_≡_};
 ghost use Prim.Native.Nat.{_<_};
 ghost use Rattle.rules.specs.Answers.{number};
 ghost use Rattle.report.specs.Items.{entered};
-ghost use Rattle.report.specs.Booking.{opened, openNumber, opening, booking, rowAfter};
-ghost use Rattle.tally.specs.Parts.{Inside, itemsIn, entryNumber, answered};
+ghost use Rattle.report.specs.Booking.{opened, openNumber, opening, itemsIn, entryNumber, booking, rowAfter};
+ghost use Rattle.tally.specs.Parts.{Inside, answered};
 use crate::entry::enter_commit;
 use crate::entry::enter_waits;
 use crate::entry::number_of;
@@ -99,7 +99,7 @@ fn enter_items(
     admitted: Admissions,
 ) -> Entry
     requires { ⌜ (number said ≡ 0 → e .task < 64) × Inside admitted ⌝ }
-    ensures number { λ x. ⌜ x .number ≡ entryNumber figures waited tasks e said admitted ⌝ }
+    ensures number { λ x. ⌜ x .number ≡ entryNumber figures (number said) (itemsIn waited tasks e said admitted) ⌝ }
     ensures figures { λ x. ⌜ (x .number ≡ 0 → x .figures ≡ entered figures (itemsIn waited tasks e said admitted)) ⌝ }
 {
     let number = number_of(said);

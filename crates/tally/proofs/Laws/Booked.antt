@@ -18,9 +18,9 @@ use Rattle.report.specs.declared.Tally.{Tally}
 use Rattle.report.specs.declared.OpenSession.{OpenSession}
 use Rattle.report.specs.declared.WithBooked.{WithBooked}
 use Rattle.report.specs.Items.{Item, commit, entered, waitsBooked, waitsIn, written}
-use Rattle.report.specs.Booking.{waitItems, commitItems, items, waitedAfter, bookNumber, withFigures, booking, rowAfter}
+use Rattle.report.specs.Booking.{waitItems, commitItems, itemsIn, items, waitedAfter, entryNumber, bookNumber, withFigures, booking, rowAfter}
 use Rattle.report.proofs.Laws.Writing.{waits-append}
-use Rattle.tally.specs.Parts.{itemsIn, entryNumber, answered}
+use Rattle.tally.specs.Parts.{answered}
 
 -- a commit is no wait
 commit-waits : (b : Bool) (i : ℕ) (waited : Bool) → waitsIn (cond b (commit i waited ∷ []) []) ≡ []
@@ -32,11 +32,11 @@ module _ (t : Tally) (o : OpenSession) (e : Event) where
   abbrev answer : Answer
   answer = step byPriority (o .session) e
 
-  abbrev numberOf : Answer → ℕ
-  numberOf a = entryNumber (t .figures) (o .waited) (o .session .tasks) e (a .said) (a .admitted)
-
   abbrev itemsOf : Answer → List Item
   itemsOf a = itemsIn (o .waited) (o .session .tasks) e (a .said) (a .admitted)
+
+  abbrev numberOf : Answer → ℕ
+  numberOf a = entryNumber (t .figures) (number (a .said)) (itemsOf a)
 
   -- the waits among them
   abbrev waitsOf : Answer → List ℕ

@@ -5,7 +5,7 @@ use Rattle.rules.specs.Setup.{fresh}
 use Rattle.rules.specs.Events.{after}
 use Rattle.rules.specs.Sum.{bound}
 use Rattle.rules.specs.Lines.{eventLines}
-use Rattle.rules.specs.Cases.{WholeSession, WholeSum, DeferredReleaseScans, FinishScans, OneOfTwoAdmitted, CommittedEmpty, OnlyClashingCommits, UsedUp, OnePeriodLater}
+use Rattle.rules.specs.Cases.{WholeSession, WholeSum, DeferredReleaseScans, FinishScans, OneOfTwoAdmitted, CommittedEmpty, OnlyClashingCommits, RanAndDidNot, UsedUp, OnePeriodLater}
 
 pub whole-session : WholeSession
 unfolding byPriority fresh eventLines
@@ -34,6 +34,10 @@ committed-empty = refl
 pub only-clashing-commits : OnlyClashingCommits
 unfolding byPriority fresh eventLines
 only-clashing-commits = refl
+
+pub ran-and-did-not : RanAndDidNot
+unfolding byPriority fresh eventLines
+ran-and-did-not = refl
 
 pub used-up : UsedUp
 unfolding byPriority fresh eventLines

@@ -21,16 +21,19 @@ use Rattle.rules.specs.declared.Task.{Task}
 use Rattle.rules.specs.declared.Session.{Session}
 use Rattle.rules.specs.declared.Event.{Event}
 use Rattle.rules.specs.declared.Said.{Said}
+use Rattle.rules.specs.declared.Admission.{Admission}
 use Rattle.rules.specs.declared.Answer.{Answer}
 use Rattle.rules.specs.Answers.{number}
 use Rattle.rules.specs.Ranking.{Ranking}
-use Rattle.rules.specs.Tasks.{isWaiting, isExecuting, retriesOf, allowed, known, taskAt, stateAt, executing, setsAt}
+use Rattle.rules.specs.Tasks.{isWaiting, isExecuting, allowed, known, taskAt, stateAt, executing, setsAt}
 use Rattle.rules.specs.Setup.{termsNumber}
+use Rattle.rules.specs.Room.{ran}
 use Rattle.rules.specs.Events.{raisedState, raisedTask, step}
+use Rattle.rules.specs.Scan.{noAdmission, admission}
 use Rattle.rules.specs.Sum.{share, bound, summed}
 use Rattle.rules.specs.Reachable.{Strict, Stays, Sound}
-use Rattle.rules.specs.History.{Call, heard, noAdmission, commits, waitLength, during, passes, passed}
-use Rattle.rules.specs.Demand3.{Run, begun, called, SameSets, FreshStarts, RunSound, RetriesFit, commitsIn, OnceRunning, HeldBack, RetriesCounted, AdmittedCounted, Bounded, RunningApart, AsTold}
+use Rattle.rules.specs.History.{Call, heard, commits, waitLength, during, passes, passed, reruns, retried}
+use Rattle.rules.specs.Demand3.{Run, begun, called, SameSets, FreshStarts, RunSound, ClashesFit, commitsIn, OnceRunning, HeldBack, Counted, WaitsCounted, AdmittedCounted, Bounded, RunningApart, AsTold}
 use Rattle.rules.proofs.Laws.Numbers.{must, must-not, allowed-is, allowed-bounds}
 use Rattle.rules.proofs.Laws.Keeping.{kept-sets}
 use Rattle.rules.proofs.Laws.Listed.{Settled, Each}
@@ -38,9 +41,9 @@ use Rattle.rules.proofs.Contest.{blocked-plain}
 use Rattle.rules.proofs.Fresh.{fresh-sound, fresh-absent}
 use Rattle.rules.proofs.Events.{step-sound}
 use Rattle.rules.proofs.Moves.{Own, arrives, runs, waits, commits as commitsOwn, finishes, passedOver, Moved, Taken, refuses, accepts, taken}
-use Rattle.rules.proofs.Told.{moved-follows}
+use Rattle.rules.proofs.Ran.{retried-fewer}
 use Rattle.rules.proofs.Jobs.{limited-share}
-use Rattle.rules.proofs.Known.{Known, commitsOf, arrivalsOf, run-known}
+use Rattle.rules.proofs.Known.{Known, commitsOf, arrivalsOf, moved-known, run-known}
 
 -- ---- a start
 
@@ -50,24 +53,24 @@ fresh-starts rank u good = record { sound = fresh-sound rank u good; absent = fr
 pub run-sound : RunSound
 run-sound rank strict stays start s calls begins run = run-known rank strict stays start s calls begins run .sound
 
-pub retries-fit : RetriesFit
-retries-fit rank strict stays start s calls begins run i l =
+pub clashes-fit : ClashesFit
+clashes-fit rank strict stays start s calls begins run i l =
     let sound = run-sound rank strict stays start s calls begins run in
-    omega (arith, sound .retries i l, sound .accepted)
+    omega (arith, sound .clashes i l, sound .accepted)
 
 -- ---- once running, running until its own commit
 
-raised-executing : (t : Task) (b : Bool) → isExecuting (t .state) ≡ true → isExecuting (cond b (raisedTask t) t .state) ≡ true
-raised-executing t true x = go (t .state) x
+raised-executing : (hadRun : Bool) (t : Task) (b : Bool) → isExecuting (t .state) ≡ true → isExecuting (cond b (raisedTask hadRun t) t .state) ≡ true
+raised-executing hadRun t true x = go (t .state) x
   where
-    go : (state : State) → isExecuting state ≡ true → isExecuting (raisedState state) ≡ true
+    go : (state : State) → isExecuting state ≡ true → isExecuting (raisedState hadRun state) ≡ true
     go Absent x = x
     go Plain x = x
     go (Waiting w) x = absurd (false≢true x)
     go Executing x = x
-raised-executing t false x = x
+raised-executing hadRun t false x = x
 
-module _ (s : Session) (e : Event) (a : Answer) (s₁ : Session) (moved : Moved s e (a .said) s₁) (settled : Settled s₁ (a .admitted) (a .session))
+module _ (rank : Ranking) (s : Session) (e : Event) (a : Answer) (s₁ : Session) (moved : Moved rank s e (a .said) s₁) (settled : Settled s₁ (a .admitted) (a .session))
     (i : ℕ) (l : i < s .n) (runs-before : executing s i ≡ true) (on : commits (heard e a) i ≡ false) where
   -- no accepted event of its own but a commit can come
   not-own : i ≢ e .task
@@ -88,7 +91,7 @@ module _ (s : Session) (e : Event) (a : Answer) (s₁ : Session) (moved : Moved 
     where
       go : {named : Bool} → Each s₁ (a .session) named i → executing (a .session) i ≡ true
       go (inl q) =
-          ap (λ (t : Task). isExecuting (t .state)) (q .0 ∙ moved .other i l not-own) ∙ raised-executing (taskAt s i) (passedOver s e i) runs-before
+          ap (λ (t : Task). isExecuting (t .state)) (q .0 ∙ moved .other i l not-own) ∙ raised-executing (ran rank s i) (taskAt s i) (passedOver s e i) runs-before
       go (inr q) = ap (λ (t : Task). isExecuting (t .state)) (q .1)
 
   sets-after : SameSets (setsAt (a .session) i) (setsAt s i)
@@ -113,16 +116,16 @@ still rank strict stays s sound i l x s′ more (called {s = before} {calls = ea
     go p a (taken rank strict stays before e (p .sound)) (step-sound rank strict stays before e (p .sound))
     (or-false-left (commits (heard e a) i) (commitsIn earlier i) none)
   where
-    go : Still rank s before i → (a : Answer) → Taken before e a → Sound rank (a .session) → commits (heard e a) i ≡ false → Still rank s (a .session) i
+    go : Still rank s before i → (a : Answer) → Taken rank before e a → Sound rank (a .session) → commits (heard e a) i ≡ false → Still rank s (a .session) i
     go p a (refuses k given) sound′ on = p
     go p a (accepts _ s₁ moved settled) sound′ on =
         let lb = lt-of-lt-of-le l (le-of-eq (sym (p .n))) in
         record {
           sound = sound′;
           n = settled .kept .n ∙ moved .n-same ∙ p .n;
-          runs = runs-after before e a s₁ moved settled i lb (p .runs) on;
+          runs = runs-after rank before e a s₁ moved settled i lb (p .runs) on;
           sets = λ g lg.
-              let q = sets-after before e a s₁ moved settled i lb (p .runs) on g lg in
+              let q = sets-after rank before e a s₁ moved settled i lb (p .runs) on g lg in
               (q .0 ∙ p .sets g lg .0, q .1 ∙ p .sets g lg .1);
         }
 
@@ -140,10 +143,18 @@ held-back rank strict stays start s calls begins run i l w =
       | inr r ↦ inr r
     ]
 
--- ---- the retry count
+-- ---- the counts
 
-pub retries-counted : RetriesCounted
-retries-counted rank strict stays start s calls begins run i w l q = run-known rank strict stays start s calls begins run .follows i l .retries w q
+-- what is told of both makes the retries the fewer
+counted : (rank : Ranking) (start : Session) (calls : List Call) (i clashes retries : ℕ) → clashes ≡ passed i calls → retries ≡ retried rank start i calls
+    → Counted rank start calls i clashes retries
+counted rank start calls i clashes retries p q =
+    record { passes = p; reruns = q; fewer = omega (arith, p, q, retried-fewer rank start i calls) }
+
+pub waits-counted : WaitsCounted
+waits-counted rank strict stays start s calls begins run i w l q =
+    let p = run-known rank strict stays start s calls begins run .follows i l in
+    counted rank start calls i (w .clashes) (w .retries) (p .clashes w q) (p .retries w q)
 
 waiting-is : (state : State) → isWaiting state ≡ true → (w : Wait) × (state ≡ Waiting w)
 waiting-is Absent e = absurd (false≢true e)
@@ -152,21 +163,25 @@ waiting-is (Waiting w) e = (w, refl)
 waiting-is Executing e = absurd (false≢true e)
 
 pub admitted-counted : AdmittedCounted
-unfolding passed during passes
+unfolding passed retried during passes reruns
 admitted-counted rank strict stays start s calls begins run e k lk =
     let p = run-known rank strict stays start s calls begins run in
     go p (step rank s e) (taken rank strict stays s e (p .sound)) lk
   where
-    go : Known rank s calls → (a : Answer) → Taken s e a → k < a .admitted .count
-        → getD (a .admitted .list) k noAdmission .retries ≡ passed (getD (a .admitted .list) k noAdmission .task) (heard e a ∷ calls)
+    at : Answer → Admission
+    at a = getD (a .admitted .list) k noAdmission
+
+    go : Known rank start s calls → (a : Answer) → Taken rank s e a → k < a .admitted .count
+        → Counted rank start (heard e a ∷ calls) (at a .task) (at a .clashes) (at a .retries)
     go p a (refuses k′ given) lk = absurd (omega arith)
     go p a (accepts _ s₁ moved settled) lk =
         let entry = settled .entries k lk in
-        let i = getD (a .admitted .list) k noAdmission .task in
+        let i = at a .task in
         let w = waiting-is (stateAt s₁ i) (entry .1) in
-        entry .2 ∙ ap retriesOf (w .1)
-        ∙ moved-follows s e (a .said) s₁ moved calls (p .follows) (λ j lj. omega (arith, p .sound .retries j lj, p .sound .accepted)) i
-        (lt-of-lt-of-le (entry .0) (le-of-eq (moved .n-same))) .retries (w .0) (w .1)
+        let is : at a ≡ admission i (Waiting (w .0)) = entry .2 ∙ ap (admission i) (w .1) in
+        let told = moved-known rank stays s e a s₁ moved settled start calls p i (lt-of-lt-of-le (entry .0) (le-of-eq (moved .n-same))) in
+        counted rank start (heard e a ∷ calls) i (at a .clashes) (at a .retries) (ap (λ (x : Admission). x .clashes) is ∙ told .clashes (w .0) (w .1))
+        (ap (λ (x : Admission). x .retries) is ∙ told .retries (w .0) (w .1))
 
 -- ---- the sum
 
@@ -186,7 +201,7 @@ pub bounded : Bounded
 unfolding summed bound
 bounded rank strict stays start s calls begins run i l = go (sound-known rank s i (p .sound) l)
   where
-    p : Known rank s calls
+    p : Known rank start s calls
     p = run-known rank strict stays start s calls begins run
 
     length : ℕ

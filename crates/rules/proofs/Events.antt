@@ -18,11 +18,11 @@ use Rattle.rules.specs.declared.Arrival.the-variants.{At}
 use Rattle.rules.specs.declared.Session.{Session}
 use Rattle.rules.specs.declared.Answer.{Answer}
 use Rattle.rules.specs.Ranking.{Ranking}
-use Rattle.rules.specs.Tasks.{isAbsent, isPlain, isWaiting, isExecuting, taskAt, stateAt, setsAt, setsOf, retriesOf, inState, withGroups, withTask, stamped}
-use Rattle.rules.specs.Room.{room}
+use Rattle.rules.specs.Tasks.{isAbsent, isPlain, isWaiting, isExecuting, taskAt, stateAt, setsAt, setsOf, waitOf, inState, withGroups, withTask, stamped}
+use Rattle.rules.specs.Room.{room, ran}
 use Rattle.rules.specs.Contest.{blocked}
 use Rattle.rules.specs.Scan.{scan}
-use Rattle.rules.specs.Events.{early, arriveNumber, releaseNumber, commitNumber, finishNumber, arrived, released, releasedInto, raised, empty, committed, finished, refused}
+use Rattle.rules.specs.Events.{early, arriveNumber, releaseNumber, commitNumber, finishNumber, arrived, released, releasedInto, begins, raised, empty, committed, finished, refused}
 use Rattle.rules.specs.Reachable.{Strict, Stays, EmptyAt, Sound, StepSound}
 use Rattle.rules.proofs.Laws.Room.{room-fewer, unblocked-apart}
 use Rattle.rules.proofs.Laws.Steps.{arrive-cases, release-cases, commit-cases, finish-cases, step-cases}
@@ -85,7 +85,7 @@ module _ (rank : Ranking) (strict : Strict rank) (stays : Stays rank) (s : Sessi
       (record {
         terms = refl;
         releases = zero-le;
-        retries = zero-le;
+        clashes = zero-le;
         arrivals = λ a e. le-of-eq (same-tick tick a e);
         emptied = λ g l w x. empty-before (ok .below) (ap isWaiting was) (ap isExecuting was) g l;
         gone = λ e. refl;
@@ -144,12 +144,12 @@ module _ (rank : Ranking) (strict : Strict rank) (stays : Stays rank) (s : Sessi
       into = releasedInto s tick i reads writes state
 
       -- fine where it does not execute, or where it is not blocked
-      release-fine : isAbsent state ≡ false → (isWaiting state ≡ true) ⊎ (isExecuting state ≡ true) → retriesOf state ≡ 0
+      release-fine : isAbsent state ≡ false → (isWaiting state ≡ true) ⊎ (isExecuting state ≡ true) → waitOf state .clashes ≡ 0
           → (isExecuting state ≡ true → blocked s (setsOf reads writes) ≡ false) → Fine s i (released (taskAt s i) state) into
       release-fine here busy new free = record {
         terms = refl;
         releases = release-left;
-        retries = le-trans (le-of-eq new) zero-le;
+        clashes = le-trans (le-of-eq new) zero-le;
         arrivals = arrival-before (release-timely .below) (release-timely .tick);
         emptied = λ g l w x.
             elim busy [ inl y ↦ absurd (not-both (isWaiting state) y w) | inr y ↦ absurd (not-both (isExecuting state) y x) ];
@@ -169,7 +169,7 @@ module _ (rank : Ranking) (strict : Strict rank) (stays : Stays rank) (s : Sessi
         refl
         (release-fine Executing refl (inr refl) refl (λ e. free))
 
-    waits-sound : Sound rank (scan rank (releasedInto s tick i reads writes (Waiting (record { release = tick; retries = 0 }))) .session)
+    waits-sound : Sound rank (scan rank (releasedInto s tick i reads writes (begins tick)) .session)
     waits-sound =
         scanned-sound sound release-timely (table-same sound i) (rows-replaced sound i reads writes) (released (taskAt s i) newly)
         (release-fine newly refl (inl refl) refl (λ e. absurd (false≢true e)))
@@ -177,7 +177,7 @@ module _ (rank : Ranking) (strict : Strict rank) (stays : Stays rank) (s : Sessi
         stays
       where
         newly : State
-        newly = Waiting (record { release = tick; retries = 0 })
+        newly = begins tick
 
   -- ---- commit
 
@@ -188,24 +188,24 @@ module _ (rank : Ranking) (strict : Strict rank) (stays : Stays rank) (s : Sessi
   unfolding commitNumber
   commit-timely z = timely s tick i commit-rest z
 
-  raised-beside : TableBeside s i (raised s (setsAt s i) (s .n))
+  raised-beside : TableBeside s i (raised (ran rank s) s (setsAt s i) (s .n))
   raised-beside = record {
-    size = raised-size s (setsAt s i) (s .n) ∙ sound .tasks;
-    others = λ j d. raised-alike s (setsAt s i) (s .n) (le-trans (sound .n-high) (le-of-eq (sym (sound .tasks)))) j;
+    size = raised-size (ran rank s) s (setsAt s i) (s .n) ∙ sound .tasks;
+    others = λ j d. raised-alike (ran rank s) s (setsAt s i) (s .n) (le-trans (sound .n-high) (le-of-eq (sym (sound .tasks)))) j;
   }
 
   emptied-row : (row : List ℕ) → length row ≡ 256 → i < s .n → (g : ℕ) → g < 4 → getD (withGroups row i empty) (i * 4 + g) 0 ≡ 0
   emptied-row row size l g lg =
       groups-same row i empty g size (lt-of-lt-of-le l (sound .n-high)) lg ∙ getD-replicate 4 g 0 0 lg
 
-  commit-sound : commitNumber s tick i ≡ 0 → Sound rank (scan rank (committed s tick i) .session)
+  commit-sound : commitNumber s tick i ≡ 0 → Sound rank (scan rank (committed rank s tick i) .session)
   commit-sound z =
       let ok = commit-timely z in
       scanned-sound sound ok raised-beside (rows-replaced sound i empty empty) (inState (taskAt s i) Plain)
       (record {
         terms = refl;
         releases = sound .releases i (ok .below);
-        retries = zero-le;
+        clashes = zero-le;
         arrivals = arrival-before (ok .below) (ok .tick);
         emptied = λ g l w x. (emptied-row (s .reads) (sound .reads) (ok .below) g l, emptied-row (s .writes) (sound .writes) (ok .below) g l);
         gone = λ e. absurd (false≢true e);
@@ -237,7 +237,7 @@ module _ (rank : Ranking) (strict : Strict rank) (stays : Stays rank) (s : Sessi
       (record {
         terms = refl;
         releases = zero-le;
-        retries = zero-le;
+        clashes = zero-le;
         arrivals = arrival-before (ok .below) (ok .tick);
         emptied = λ g l w x. empty-before (ok .below) (ap isWaiting was) (ap isExecuting was) g l;
         gone = λ e. refl;

@@ -14,7 +14,7 @@ use Rattle.rules.specs.declared.Arrival.the-variants.{Never, At}
 use Rattle.rules.specs.declared.Setup.{Setup}
 use Rattle.rules.specs.declared.Task.{Task}
 use Rattle.rules.specs.Ranking.{Ranking}
-use Rattle.rules.specs.Tasks.{isAbsent, isWaiting, isExecuting, retriesOf, allowed, freshTask, noTask, taskAt, stateAt, waiting, executing}
+use Rattle.rules.specs.Tasks.{isAbsent, isWaiting, isExecuting, waitOf, allowed, freshTask, noTask, taskAt, stateAt, waiting, executing}
 use Rattle.rules.specs.Setup.{termsAt, termsNumber, firstNumber, setupNumber, freshTasks, fresh}
 use Rattle.rules.specs.Reachable.{Sound, FreshSound}
 use Rattle.rules.proofs.Laws.Numbers.{must, allowed-bounds}
@@ -98,7 +98,7 @@ module _ (rank : Ranking) (u : Setup) (good : setupNumber u ≡ 0) where
     fit = le-trans (le-of-eq (count-none (u .n) (executing (fresh u)) not-executing)) zero-le;
     held = λ i l w. absurd (not-both (waiting (fresh u) i) w (not-waiting i l));
     releases = λ i l. le-trans (le-of-eq (ap (λ (t : Task). t .releases) (fresh-task i l))) zero-le;
-    retries = λ i l. le-of-eq (ap (λ (t : Task). retriesOf (t .state)) (fresh-task i l));
+    clashes = λ i l. le-of-eq (ap (λ (t : Task). waitOf (t .state) .clashes) (fresh-task i l));
     arrivals = λ i a l e. absurd (never-at a (sym (ap (λ (t : Task). t .arrival) (fresh-task i l)) ∙ e));
     accepted = zero-le;
     emptied = λ i g li lg w x. (getD-replicate 256 (i * 4 + g) 0 0 (omega arith), getD-replicate 256 (i * 4 + g) 0 0 (omega arith));

@@ -91,11 +91,11 @@ module _ (t : Task) (e : Event) (C A b : ℕ) (live : Live t C A b) where
       rw kind (simp add-zero (record { jobs = omega (arith, live .jobs, allows t Plain was, ap busy was, few); spaced = live .spaced }))
 
 -- what a commit of another raises, and what a scan admits
-raised-busy : (state : State) → (busy (raisedState state) ≡ busy state) × (isAbsent (raisedState state) ≡ isAbsent state)
-raised-busy Absent = (refl, refl)
-raised-busy Plain = (refl, refl)
-raised-busy (Waiting w) = (refl, refl)
-raised-busy Executing = (refl, refl)
+raised-busy : (ran : Bool) (state : State) → (busy (raisedState ran state) ≡ busy state) × (isAbsent (raisedState ran state) ≡ isAbsent state)
+raised-busy ran Absent = (refl, refl)
+raised-busy ran Plain = (refl, refl)
+raised-busy ran (Waiting w) = (refl, refl)
+raised-busy ran Executing = (refl, refl)
 
 waiting-busy : (state : State) → isWaiting state ≡ true → (busy state ≡ 1) × (isAbsent state ≡ false)
 waiting-busy Absent e = absurd (false≢true e)
@@ -121,10 +121,10 @@ kin-trans t u v p q = record {
   as-absent = q .as-absent ∙ ap (λ (x : Task). isAbsent (x .state)) (p .is) ∙ p .as-absent;
 }
 
-pub kin-raised : (t : Task) (b : Bool) → Kin t (cond b (raisedTask t) t)
-kin-raised t true =
-    record { state = raisedState (t .state); is = refl; as-busy = raised-busy (t .state) .0; as-absent = raised-busy (t .state) .1 }
-kin-raised t false = kin-refl t t refl
+pub kin-raised : (ran : Bool) (t : Task) (b : Bool) → Kin t (cond b (raisedTask ran t) t)
+kin-raised ran t true =
+    record { state = raisedState ran (t .state); is = refl; as-busy = raised-busy ran (t .state) .0; as-absent = raised-busy ran (t .state) .1 }
+kin-raised ran t false = kin-refl t t refl
 
 pub kin-admitted : (t u : Task) → isWaiting (t .state) ≡ true → u ≡ inState t Executing → Kin t u
 kin-admitted t u w e = record {

@@ -1,4 +1,4 @@
--- What is known at every place of a run: the session is sound, history says what it says, and while task i waits every task's commits and arrivals are within their
+-- What is known at every place of a run: the session is sound, it is of the start's m and n, history says what it says, and while task i waits every task's commits and arrivals are within their
 -- bounds. A start has it and every call keeps it.
 use Prim.Native.Nat.{ℕ, _+_, _≤_, _<_, zero-le}
 use mathlib.Core.Path.{_≡_, refl, sym, ap, ap₂, subst, _∙_}
@@ -23,14 +23,16 @@ use Rattle.rules.specs.declared.Answer.{Answer}
 use Rattle.rules.specs.Answers.{number}
 use Rattle.rules.specs.Ranking.{Ranking}
 use Rattle.rules.specs.Tasks.{isWaiting, isExecuting, taskAt, stateAt}
+use Rattle.rules.specs.Room.{ran}
 use Rattle.rules.specs.Events.{refused, step}
 use Rattle.rules.specs.Reachable.{Strict, Stays, Sound}
-use Rattle.rules.specs.History.{Call, heard, tasksOf, names, accepted, by, arrives, commits, deferred, admits, isArrive, isCommit, isRelease, isWait, Stage, waits, executes, stageAfter, stage, isWaits, inWait, transaction, released, began, lasted, waitLength, during, passes, passed}
+use Rattle.rules.specs.History.{Call, heard, tasksOf, names, accepted, by, arrives, commits, deferred, admits, isArrive, isCommit, isRelease, isWait, Stage, waits, executes, stageAfter, stage, isWaits, inWait, transaction, released, began, lasted, waitLength, during, passes, passed, lastArrival, ranBy, retried}
 use Rattle.rules.specs.Demand3.{Start, Run, begun, called, stageOf}
 use Rattle.rules.proofs.Laws.Alike.{at-or-other}
 use Rattle.rules.proofs.Laws.Listed.{Settled, Each}
 use Rattle.rules.proofs.Events.{absent-is, step-sound}
 use Rattle.rules.proofs.Moves.{passedOver, Moved, Taken, refuses, accepts, taken}
+use Rattle.rules.proofs.Ran.{ran-told}
 use Rattle.rules.proofs.Told.{Follows, during-goes, plus-none, no-wait, refused-follows, moved-follows, settled-follows}
 use Rattle.rules.proofs.Jobs.{Live, Limited, Ready, Kin, ready-live, nothing-limited, own-live, own-ready, own-terms, kin-refl, kin-trans, kin-raised, kin-admitted, kin-terms, kin-ready, kin-live, live-limited}
 
@@ -41,9 +43,11 @@ commitsOf j i calls = during (λ c before. commits c j) i calls
 abbrev pub arrivalsOf : ℕ → ℕ → List Call → ℕ
 arrivalsOf j i calls = during (λ c before. arrives c j) i calls
 
-pub record Known (rank : Ranking) (s : Session) (calls : List Call) : Type 0 where
+pub record Known (rank : Ranking) (start s : Session) (calls : List Call) : Type 0 where
   pub sound : Sound rank s
-  pub follows : (i : ℕ) → i < s .n → Follows s calls i
+  pub m-same : s .m ≡ start .m
+  pub n-same : s .n ≡ start .n
+  pub follows : (i : ℕ) → i < s .n → Follows rank start s calls i
   pub ready : (i : ℕ) → i < s .n → Ready (taskAt s i)
   pub since : (i : ℕ) → i < s .n → inWait i calls ≡ true → began i calls ≤ s .tick
   pub live : (i j : ℕ) → i < s .n → j < s .n → inWait i calls ≡ true → Live (taskAt s j) (commitsOf j i calls) (arrivalsOf j i calls) (began i calls)
@@ -123,11 +127,13 @@ module _ (s : Session) (e : Event) (k : ℕ) (no : k ≢ 0) (calls : List Call) 
   unfolding lasted
   lasted-quiet i = rw unheard refl
 
-  refused-known : (rank : Ranking) → Known rank s calls → Known rank s (refusal ∷ calls)
+  refused-known : (rank : Ranking) (start : Session) → Known rank start s calls → Known rank start s (refusal ∷ calls)
   unfolding passed passes
-  refused-known rank p = record {
+  refused-known rank start p = record {
     sound = p .sound;
-    follows = λ i l. refused-follows s e k no calls i (p .follows i l);
+    m-same = p .m-same;
+    n-same = p .n-same;
+    follows = λ i l. refused-follows rank start s e k no calls i (p .follows i l);
     ready = p .ready;
     since = λ i l w. rw (began-goes refusal calls i (rw unheard refl)) (p .since i l (waited i w));
     live = λ i j li lj w.
@@ -165,7 +171,7 @@ one-commits true true true false x = one-le x
 
 -- how each task went
 
-module _ (s : Session) (e : Event) (a : Answer) (s₁ : Session) (moved : Moved s e (a .said) s₁) (settled : Settled s₁ (a .admitted) (a .session)) where
+module _ (rank : Ranking) (stays : Stays rank) (s : Session) (e : Event) (a : Answer) (s₁ : Session) (moved : Moved rank s e (a .said) s₁) (settled : Settled s₁ (a .admitted) (a .session)) where
   abbrev s′ : Session
   s′ = a .session
 
@@ -186,7 +192,7 @@ module _ (s : Session) (e : Event) (a : Answer) (s₁ : Session) (moved : Moved 
   kin-other : (j : ℕ) → j < s .n → j ≢ e .task → Kin (taskAt s j) (taskAt s′ j)
   kin-other j l d =
       kin-trans (taskAt s j) (taskAt s₁ j) (taskAt s′ j)
-      (subst (λ (u : Task). Kin (taskAt s j) u) (sym (moved .other j l d)) (kin-raised (taskAt s j) (passedOver s e j))) (kin-settled j)
+      (subst (λ (u : Task). Kin (taskAt s j) u) (sym (moved .other j l d)) (kin-raised (ran rank s j) (taskAt s j) (passedOver s e j))) (kin-settled j)
 
   ready-after : ((j : ℕ) → j < s .n → Ready (taskAt s j)) → (j : ℕ) → j < s .n → Ready (taskAt s′ j)
   ready-after before =
@@ -211,20 +217,25 @@ module _ (s : Session) (e : Event) (a : Answer) (s₁ : Session) (moved : Moved 
       (λ j d l few before.
       rw (ok, ne-eqb (e .task) j (λ q. d (sym q))) (simp add-zero (kin-live (taskAt s j) (taskAt s′ j) (kin-other j l d) C A b before)))
 
-  module _ (rank : Ranking) (calls : List Call) (p : Known rank s calls) (sound : Sound rank s′) where
-    n-same : s′ .n ≡ s .n
-    n-same = settled .kept .n ∙ moved .n-same
+  module _ (start : Session) (calls : List Call) (p : Known rank start s calls) where
+    -- before its scan
+    pub moved-known : (i : ℕ) → i < s .n → Follows rank start s₁ (record { event = e; said = a .said; admitted = [] } ∷ calls) i
+    moved-known =
+        moved-follows rank start s e (a .said) s₁ moved calls (p .follows) (ran-told rank stays start s calls (p .m-same) (p .n-same) (λ j lj. p .follows j lj .told))
+        (λ j lj. omega (arith, p .sound .clashes j lj, p .sound .accepted))
+
+  module _ (start : Session) (calls : List Call) (p : Known rank start s calls) (sound : Sound rank s′) where
+    n-now : s′ .n ≡ s .n
+    n-now = settled .kept .n ∙ moved .n-same
 
     below : {j : ℕ} → j < s′ .n → j < s .n
-    below l = lt-of-lt-of-le l (le-of-eq n-same)
+    below l = lt-of-lt-of-le l (le-of-eq n-now)
 
     now : e .tick ≡ s′ .tick
     now = sym (settled .kept .tick ∙ moved .tick-now)
 
-    follows-after : (i : ℕ) → i < s .n → Follows s′ (c ∷ calls) i
-    follows-after i l =
-        settled-follows e a s₁ s′ calls i settled
-        (moved-follows s e (a .said) s₁ moved calls (p .follows) (λ j lj. omega (arith, p .sound .retries j lj, p .sound .accepted)) i l)
+    follows-after : (i : ℕ) → i < s .n → Follows rank start s′ (c ∷ calls) i
+    follows-after i l = settled-follows rank start e a s₁ s′ calls i settled (moved-known start calls p i l)
 
     since-before : (i : ℕ) → i < s .n → inWait i calls ≡ true → began i calls ≤ e .tick
     since-before i l w = le-trans (p .since i l w) (moved .tick)
@@ -263,7 +274,7 @@ module _ (s : Session) (e : Event) (a : Answer) (s₁ : Session) (moved : Moved 
             rw (during-begins c calls i (λ c before. commits c j) d, during-begins c calls i (λ c before. arrives c j) d)
             (nothing-limited (taskAt s′ j .terms) (waitLength i (c ∷ calls)))
         go false d true w =
-            let lj′ : j < s′ .n = lt-of-lt-of-le lj (le-of-eq (sym n-same)) in
+            let lj′ : j < s′ .n = lt-of-lt-of-le lj (le-of-eq (sym n-now)) in
             rw (lasted-live c calls i d ok w)
             (live-limited (taskAt s′ j) (commitsOf j i (c ∷ calls)) (arrivalsOf j i (c ∷ calls)) (began i (c ∷ calls)) (e .tick) (goes-live i j li lj d w)
             (sound .releases j lj′) (λ x q. le-trans (sound .arrivals j x lj′ q) (le-of-eq (sym now))))
@@ -313,23 +324,27 @@ module _ (s : Session) (e : Event) (a : Answer) (s₁ : Session) (moved : Moved 
               sum-term (s .n) new (e .task) (moved .below),
             )
 
-    accepted-known : Known rank s′ (c ∷ calls)
+    accepted-known : Known rank start s′ (c ∷ calls)
     accepted-known = record {
       sound = sound;
+      m-same = settled .kept .m ∙ moved .m-same ∙ p .m-same;
+      n-same = n-now ∙ p .n-same;
       follows = λ i l. follows-after i (below l);
       ready = λ i l. ready-after (p .ready) i (below l);
       since = λ i l. since-after i (below l);
       live = λ i j li lj. live-now i j (below li) (below lj);
       limited = λ i j li lj. limited-now i j (below li) (below lj);
-      total = λ i l. rw n-same (total-now i (below l));
+      total = λ i l. rw n-now (total-now i (below l));
     }
 
 -- ---- a run
 
-start-known : (rank : Ranking) (s : Session) → Start rank s → Known rank s []
-unfolding stage transaction released began lasted during passed
+start-known : (rank : Ranking) (s : Session) → Start rank s → Known rank s s []
+unfolding stage transaction released began lasted during passed retried lastArrival
 start-known rank s start = record {
   sound = start .sound;
+  m-same = refl;
+  n-same = refl;
   follows = λ i l. record {
     told = record {
       stands = ap stageOf (sym (gone i l));
@@ -337,7 +352,10 @@ start-known rank s start = record {
       release = λ w q. absurd (no-wait (stateAt s i) w (ap isWaiting (gone i l)) q);
       length = λ w q. absurd (no-wait (stateAt s i) w (ap isWaiting (gone i l)) q);
       releases = start .sound .gone i l (start .absent i l);
+      terms = refl;
+      arrival = refl;
     };
+    clashes = λ w q. absurd (no-wait (stateAt s i) w (ap isWaiting (gone i l)) q);
     retries = λ w q. absurd (no-wait (stateAt s i) w (ap isWaiting (gone i l)) q);
   };
   ready = λ i l. le-trans (le-of-eq (ap (λ (x : State). one (isWaiting x || isExecuting x)) (gone i l))) zero-le;
@@ -351,12 +369,13 @@ start-known rank s start = record {
     gone i l = absent-is (stateAt s i) (start .absent i l)
 
 pub run-known : (rank : Ranking) → Strict rank → Stays rank → (start s : Session) (calls : List Call) → Start rank start → Run rank start s calls
-    → Known rank s calls
+    → Known rank start s calls
 run-known rank strict stays start s calls begins begun = start-known rank start begins
 run-known rank strict stays start s calls begins (called {s = before} {calls = earlier} r e) =
     let p = run-known rank strict stays start before earlier begins r in
     go (step rank before e) (taken rank strict stays before e (p .sound)) (step-sound rank strict stays before e (p .sound)) p
   where
-    go : (a : Answer) → Taken before e a → Sound rank (a .session) → Known rank before earlier → Known rank (a .session) (heard e a ∷ earlier)
-    go a (refuses k given) sound p = refused-known before e k given earlier rank p
-    go a (accepts _ s₁ moved settled) sound p = accepted-known before e a s₁ moved settled rank earlier p sound
+    go : (a : Answer) → Taken rank before e a → Sound rank (a .session) → Known rank start before earlier
+        → Known rank start (a .session) (heard e a ∷ earlier)
+    go a (refuses k given) sound p = refused-known before e k given earlier rank start p
+    go a (accepts _ s₁ moved settled) sound p = accepted-known rank stays before e a s₁ moved settled start earlier p sound

@@ -1,4 +1,4 @@
--- The theorems of the rules, and the laws that they share. Demand 3 is read in this order: Moves (what an event does, task by task), Told (history follows it), Jobs (how
+-- The theorems of the rules, and the laws that they share. Demand 3 is read in this order: Moves (what an event does, task by task), Ran (who ran, by history), Told (history follows it), Jobs (how
 -- often a task can commit), Known (what is known at every place of a run), Demand3.
 pub mod Laws
 pub mod Cases
@@ -8,6 +8,7 @@ pub mod Accepted
 pub mod Fresh
 pub mod Events
 pub mod Moves
+pub mod Ran
 pub mod Told
 pub mod Jobs
 pub mod Known

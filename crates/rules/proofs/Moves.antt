@@ -24,8 +24,9 @@ use Rattle.rules.specs.declared.Answer.{Answer}
 use Rattle.rules.specs.Answers.{number}
 use Rattle.rules.specs.Ranking.{Ranking}
 use Rattle.rules.specs.Tasks.{isExecuting, noTask, taskAt, stateAt, waiting, setsAt, setsOf, inState, withTask, withTasks, stamped}
+use Rattle.rules.specs.Room.{ran}
 use Rattle.rules.specs.Contest.{lowestContested, contestedCount}
-use Rattle.rules.specs.Events.{early, arriveNumber, releaseNumber, commitNumber, finishNumber, refused, still, scanning, arrived, released, releasedInto, raisedTask, raised, empty, committed, finished, step}
+use Rattle.rules.specs.Events.{early, arriveNumber, releaseNumber, commitNumber, finishNumber, refused, still, scanning, arrived, released, releasedInto, begins, raisedTask, raised, empty, committed, finished, step}
 use Rattle.rules.specs.History.{isRelease, isCommit}
 use Rattle.rules.specs.Reachable.{Strict, Stays, Sound}
 use Rattle.rules.proofs.Laws.Tasks.{task-replaced, task-other}
@@ -39,34 +40,39 @@ use Rattle.rules.proofs.Events.{plain-is, executing-is, arrive-timely, 
 
 -- ---- whom a commit raises
 
-module _ (s : Session) (x : Sets) where
-  abbrev raises : ℕ → Bool
-  raises j = waiting s j && clash x (setsAt s j)
+-- those that wait and clash with it
+abbrev raises : Session → Sets → ℕ → Bool
+raises s x j = waiting s j && clash x (setsAt s j)
 
-  raised-past : (k j : ℕ) → k ≤ j → getD (raised s x k) j noTask ≡ taskAt s j
+module _ (hadRun : ℕ → Bool) (s : Session) (x : Sets) where
+  abbrev up : ℕ → Task
+  up k = raisedTask (hadRun k) (taskAt s k)
+
+  raised-past : (k j : ℕ) → k ≤ j → getD (raised hadRun s x k) j noTask ≡ taskAt s j
   unfolding raised
   raised-past zero j h = refl
-  raised-past (suc k) j h = go (raised-past k j (omega arith)) (raises k)
-    where
-      go : getD (raised s x k) j noTask ≡ taskAt s j → (b : Bool)
-          → getD (cond b (set (raised s x k) k (raisedTask (taskAt s k))) (raised s x k)) j noTask ≡ taskAt s j
-      go ih true = getD-set-other (raised s x k) k j (raisedTask (taskAt s k)) noTask (ne-of-gt h) ∙ ih
-      go ih false = ih
-
-  raised-below : (k j : ℕ) → k ≤ length (s .tasks) → j < k → getD (raised s x k) j noTask ≡ cond (raises j) (raisedTask (taskAt s j)) (taskAt s j)
-  unfolding raised
-  raised-below zero j h l = absurd (not-suc-le-zero l)
-  raised-below (suc k) j h l = go (below-suc j k l) (raised-below k j (omega arith)) (raises k) refl
+  raised-past (suc k) j h = go (raised-past k j (omega arith)) (raises s x k)
     where
       row : List Task
-      row = raised s x k
+      row = raised hadRun s x k
 
-      go : (j ≡ k) ⊎ (j < k) → (j < k → getD row j noTask ≡ cond (raises j) (raisedTask (taskAt s j)) (taskAt s j)) → (b : Bool) → raises k ≡ b
-          → getD (cond b (set row k (raisedTask (taskAt s k))) row) j noTask ≡ cond (raises j) (raisedTask (taskAt s j)) (taskAt s j)
-      go (inl p) ih true e =
-          rw (p, e) (getD-set-same row k (raisedTask (taskAt s k)) noTask (omega (arith, raised-size s x k)))
+      go : getD row j noTask ≡ taskAt s j → (b : Bool) → getD (cond b (set row k (up k)) row) j noTask ≡ taskAt s j
+      go ih true = getD-set-other row k j (up k) noTask (ne-of-gt h) ∙ ih
+      go ih false = ih
+
+  raised-below : (k j : ℕ) → k ≤ length (s .tasks) → j < k → getD (raised hadRun s x k) j noTask ≡ cond (raises s x j) (up j) (taskAt s j)
+  unfolding raised
+  raised-below zero j h l = absurd (not-suc-le-zero l)
+  raised-below (suc k) j h l = go (below-suc j k l) (raised-below k j (omega arith)) (raises s x k) refl
+    where
+      row : List Task
+      row = raised hadRun s x k
+
+      go : (j ≡ k) ⊎ (j < k) → (j < k → getD row j noTask ≡ cond (raises s x j) (up j) (taskAt s j)) → (b : Bool) → raises s x k ≡ b
+          → getD (cond b (set row k (up k)) row) j noTask ≡ cond (raises s x j) (up j) (taskAt s j)
+      go (inl p) ih true e = rw (p, e) (getD-set-same row k (up k) noTask (omega (arith, raised-size hadRun s x k)))
       go (inl p) ih false e = rw (p, e) (raised-past k k (le-of-eq refl))
-      go (inr m) ih true e = getD-set-other row k j (raisedTask (taskAt s k)) noTask (ne-of-lt m) ∙ ih m
+      go (inr m) ih true e = getD-set-other row k j (up k) noTask (ne-of-lt m) ∙ ih m
       go (inr m) ih false e = ih m
 
 -- ---- an accepted event, before its scan
@@ -75,7 +81,7 @@ module _ (s : Session) (x : Sets) where
 pub data Own (t : Task) (e : Event) : Said → Task → Type 0 where
   arrives : e .kind ≡ Arrive → t .state ≡ Absent → early (t .arrival) (t .terms .period) (e .tick) ≡ false → Own t e Ok (arrived t (e .tick))
   runs : e .kind ≡ Release → t .state ≡ Plain → Own t e Run (released t Executing)
-  waits : e .kind ≡ Release → t .state ≡ Plain → (b k : ℕ) → Own t e (Wait b k) (released t (Waiting (record { release = e .tick; retries = 0 })))
+  waits : e .kind ≡ Release → t .state ≡ Plain → (b k : ℕ) → Own t e (Wait b k) (released t (begins (e .tick)))
   commits : e .kind ≡ Commit → t .state ≡ Executing → Own t e Ok (inState t Plain)
   finishes : e .kind ≡ Finish → t .state ≡ Plain → Own t e Ok (finished t)
 
@@ -84,10 +90,10 @@ abbrev pub passedOver : Session → Event → ℕ → Bool
 passedOver s e j = isCommit (e .kind) && raises s (setsAt s (e .task)) j
 
 -- how another moves
-abbrev pub beside : Session → Event → ℕ → Task
-beside s e j = cond (passedOver s e j) (raisedTask (taskAt s j)) (taskAt s j)
+abbrev pub beside : Ranking → Session → Event → ℕ → Task
+beside rank s e j = cond (passedOver s e j) (raisedTask (ran rank s j) (taskAt s j)) (taskAt s j)
 
-pub record Moved (s : Session) (e : Event) (said : Said) (s′ : Session) : Type 0 where
+pub record Moved (rank : Ranking) (s : Session) (e : Event) (said : Said) (s′ : Session) : Type 0 where
   pub below : e .task < s .n
   pub tick : s .tick ≤ e .tick
   pub zero : number said ≡ 0
@@ -96,13 +102,13 @@ pub record Moved (s : Session) (e : Event) (said : Said) (s′ : Session) : Type
   pub tick-now : s′ .tick ≡ e .tick
   pub own : Own (taskAt s (e .task)) e said (taskAt s′ (e .task))
   pub own-sets : isRelease (e .kind) ≡ true → Agree (setsAt s′ (e .task)) (setsOf (e .reads) (e .writes))
-  pub other : (j : ℕ) → j < s .n → j ≢ e .task → taskAt s′ j ≡ beside s e j
+  pub other : (j : ℕ) → j < s .n → j ≢ e .task → taskAt s′ j ≡ beside rank s e j
   pub other-sets : (j : ℕ) → j ≢ e .task → Agree (setsAt s′ j) (setsAt s j)
 
 -- the answer to an event
-pub data Taken (s : Session) (e : Event) : Answer → Type 0 where
-  refuses : (k : ℕ) → k ≢ 0 → Taken s e (refused s k)
-  accepts : (a : Answer) (s′ : Session) → Moved s e (a .said) s′ → Settled s′ (a .admitted) (a .session) → Taken s e a
+pub data Taken (rank : Ranking) (s : Session) (e : Event) : Answer → Type 0 where
+  refuses : (k : ℕ) → k ≢ 0 → Taken rank s e (refused s k)
+  accepts : (a : Answer) (s′ : Session) → Moved rank s e (a .said) s′ → Settled s′ (a .admitted) (a .session) → Taken rank s e a
 
 module _ (rank : Ranking) (strict : Strict rank) (stays : Stays rank) (s : Session) (e : Event) (sound : Sound rank s) where
   abbrev i : ℕ
@@ -118,18 +124,18 @@ module _ (rank : Ranking) (strict : Strict rank) (stays : Stays rank) (s : Sessi
   same-sets : (j : ℕ) → j ≢ i → Agree (setsAt s j) (setsAt s j)
   same-sets j d = rows-same sound i .others j d
 
-  still-taken : (said : Said) (s′ : Session) → Moved s e said s′ → Taken s e (still said s′)
+  still-taken : (said : Said) (s′ : Session) → Moved rank s e said s′ → Taken rank s e (still said s′)
   still-taken said s′ moved = accepts (still said s′) s′ moved (none-settled s′)
 
-  scan-taken : (said : Said) (s′ : Session) → Moved s e said s′ → Taken s e (scanning rank said s′)
+  scan-taken : (said : Said) (s′ : Session) → Moved rank s e said s′ → Taken rank s e (scanning rank said s′)
   scan-taken said s′ moved =
       accepts (scanning rank said s′) s′ moved (scan-settled rank s′ (le-trans (le-of-eq (moved .m-same)) (sound .m-high)))
 
   -- its kind is no commit, so the others stay
-  others-stay : (k : Kind) → e .kind ≡ k → isCommit k ≡ false → (j : ℕ) → taskAt s j ≡ beside s e j
+  others-stay : (k : Kind) → e .kind ≡ k → isCommit k ≡ false → (j : ℕ) → taskAt s j ≡ beside rank s e j
   others-stay k p c j = rw (p, c)
 
-  arrive-taken : e .kind ≡ Arrive → arriveNumber s (e .tick) i ≡ 0 → Moved s e Ok (withTask (stamped s (e .tick)) i (arrived t (e .tick)))
+  arrive-taken : e .kind ≡ Arrive → arriveNumber s (e .tick) i ≡ 0 → Moved rank s e Ok (withTask (stamped s (e .tick)) i (arrived t (e .tick)))
   arrive-taken kind z =
       let ok = arrive-timely rank strict stays s sound (e .tick) i z in
       let was = arrive-was rank strict stays s sound (e .tick) i z in
@@ -147,7 +153,7 @@ module _ (rank : Ranking) (strict : Strict rank) (stays : Stays rank) (s : Sessi
       }
 
   release-taken : e .kind ≡ Release → releaseNumber rank s (e .tick) i ≡ 0 → (said : Said) (state : State) → number said ≡ 0
-      → (stateAt s i ≡ Plain → Own t e said (released t state)) → Moved s e said (releasedInto s (e .tick) i (e .reads) (e .writes) state)
+      → (stateAt s i ≡ Plain → Own t e said (released t state)) → Moved rank s e said (releasedInto s (e .tick) i (e .reads) (e .writes) state)
   release-taken kind z said state good moves =
       let ok = release-timely rank strict stays s sound (e .tick) i z (e .reads) (e .writes) in
       let was = plain-is (stateAt s i) (release-plain rank strict stays s sound (e .tick) i z (e .reads) (e .writes) .0) in
@@ -164,13 +170,13 @@ module _ (rank : Ranking) (strict : Strict rank) (stays : Stays rank) (s : Sessi
         other-sets = rows-replaced sound i (e .reads) (e .writes) .others;
       }
 
-  commit-taken : e .kind ≡ Commit → commitNumber s (e .tick) i ≡ 0 → Moved s e Ok (committed s (e .tick) i)
+  commit-taken : e .kind ≡ Commit → commitNumber s (e .tick) i ≡ 0 → Moved rank s e Ok (committed rank s (e .tick) i)
   commit-taken kind z =
       let ok = commit-timely rank strict stays s sound (e .tick) i z in
       let was = executing-is (stateAt s i) (must (isExecuting (stateAt s i)) 0 4 (omega arith) (ok .rest-zero) .0) in
-      let table = raised s (setsAt s i) (s .n) in
+      let table = raised (ran rank s) s (setsAt s i) (s .n) in
       let up = withTasks (stamped s (e .tick)) table in
-      let size : i < length table = omega (arith, inside (ok .below), raised-size s (setsAt s i) (s .n)) in
+      let size : i < length table = omega (arith, inside (ok .below), raised-size (ran rank s) s (setsAt s i) (s .n)) in
       record {
         below = ok .below;
         tick = ok .tick;
@@ -181,12 +187,12 @@ module _ (rank : Ranking) (strict : Strict rank) (stays : Stays rank) (s : Sessi
         own = rw (task-replaced up i (inState t Plain) size) (commits kind was);
         own-sets = λ r. absurd (false≢true (rw kind at r));
         other = λ j l d.
-            task-other up i j (inState t Plain) d ∙ raised-below s (setsAt s i) (s .n) j (omega (arith, sound .tasks, sound .n-high)) l
-            ∙ ap (λ (k : Kind). cond (isCommit k && raises s (setsAt s i) j) (raisedTask (taskAt s j)) (taskAt s j)) (sym kind);
+            task-other up i j (inState t Plain) d ∙ raised-below (ran rank s) s (setsAt s i) (s .n) j (omega (arith, sound .tasks, sound .n-high)) l
+            ∙ ap (λ (k : Kind). cond (isCommit k && raises s (setsAt s i) j) (raisedTask (ran rank s j) (taskAt s j)) (taskAt s j)) (sym kind);
         other-sets = rows-replaced sound i empty empty .others;
       }
 
-  finish-taken : e .kind ≡ Finish → finishNumber rank s (e .tick) i ≡ 0 → Moved s e Ok (withTask (stamped s (e .tick)) i (finished t))
+  finish-taken : e .kind ≡ Finish → finishNumber rank s (e .tick) i ≡ 0 → Moved rank s e Ok (withTask (stamped s (e .tick)) i (finished t))
   finish-taken kind z =
       let ok = finish-timely rank strict stays s sound (e .tick) i z in
       record {
@@ -202,16 +208,16 @@ module _ (rank : Ranking) (strict : Strict rank) (stays : Stays rank) (s : Sessi
         other-sets = same-sets;
       }
 
-  pub taken : Taken s e (step rank s e)
+  pub taken : Taken rank s e (step rank s e)
   taken =
-      step-cases rank s e (Taken s e)
-      (λ kind. arrive-cases (Taken s e) s refuses (e .tick) i (λ z. still-taken Ok _ (arrive-taken kind z)))
-      (λ kind. release-cases (Taken s e) s refuses (e .tick) i rank (e .reads) (e .writes)
+      step-cases rank s e (Taken rank s e)
+      (λ kind. arrive-cases (Taken rank s e) s refuses (e .tick) i (λ z. still-taken Ok _ (arrive-taken kind z)))
+      (λ kind. release-cases (Taken rank s e) s refuses (e .tick) i rank (e .reads) (e .writes)
       (λ z b.
       let low = lowestContested s (setsOf (e .reads) (e .writes)) in
       let many = contestedCount s (setsOf (e .reads) (e .writes)) in
       scan-taken (Wait low many) _
-      (release-taken kind z (Wait low many) (Waiting (record { release = e .tick; retries = 0 })) refl (λ was. waits kind was low many)))
+      (release-taken kind z (Wait low many) (begins (e .tick)) refl (λ was. waits kind was low many)))
       (λ z b. still-taken Run _ (release-taken kind z Run Executing refl (runs kind))))
-      (λ kind. commit-cases (Taken s e) s refuses (e .tick) i rank (λ z. scan-taken Ok _ (commit-taken kind z)))
-      (λ kind. finish-cases (Taken s e) s refuses (e .tick) i rank (λ z. scan-taken Ok _ (finish-taken kind z)))
+      (λ kind. commit-cases (Taken rank s e) s refuses (e .tick) i rank (λ z. scan-taken Ok _ (commit-taken kind z)))
+      (λ kind. finish-cases (Taken rank s e) s refuses (e .tick) i rank (λ z. scan-taken Ok _ (finish-taken kind z)))

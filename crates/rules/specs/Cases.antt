@@ -48,11 +48,11 @@ wholeEvents =
     ∷ releaseOf 5 2 empty (only 7) ∷ plainEvent Commit 6 0 ∷ plainEvent Commit 7 2 ∷ plainEvent Finish 8 0 ∷ plainEvent Commit 8 1
     ∷ plainEvent Finish 9 1 ∷ plainEvent Finish 10 0 ∷ plainEvent Finish 11 2 ∷ plainEvent Arrive 12 1 ∷ []
 
--- the sixteen lines after `setup`, the last included
+-- the sixteen lines after `setup`, the last included. Request 2: 'in 01's session it becomes `7 admit 1 2 0`'.
 abbrev pub wholeLines : List Line
 wholeLines =
     event 0 Arrive 0 Ok ∷ event 1 Release 0 Run ∷ event 2 Arrive 1 Ok ∷ event 3 Release 1 (Wait 4 1) ∷ event 4 Arrive 2 Ok ∷ event 5 Release 2 Run
-    ∷ event 6 Commit 0 Ok ∷ event 7 Commit 2 Ok ∷ admit 7 1 2 ∷ event 8 Finish 0 (No 6) ∷ event 8 Commit 1 Ok ∷ event 9 Finish 1 Ok
+    ∷ event 6 Commit 0 Ok ∷ event 7 Commit 2 Ok ∷ admit 7 1 2 0 ∷ event 8 Finish 0 (No 6) ∷ event 8 Commit 1 Ok ∷ event 9 Finish 1 Ok
     ∷ event 10 Finish 0 Ok ∷ event 11 Finish 2 Ok ∷ event 12 Arrive 1 (No 5) ∷ end 12 2 ∷ []
 
 abbrev pub WholeSession : Type 0
@@ -76,14 +76,14 @@ writes tick i b = releaseOf tick i empty (only b)
 
 -- 'Scanning after commits only. With m = 2 and priorities 10, 20, 30, 40 for tasks 0 to 3: 0 executes writing 1; 1 releases writing 1 and waits; 2 executes
 -- writing 2; 3 arrives; 0 commits. Task 1 now clashes with none but has no room, since 3 is plain above it. Task 3 releases writing 2 and waits: that scan
--- admits task 1, with retry count 1.'
+-- admits task 1, with retry count 1', which is its clash count. Two transactions were executing just before that commit, so it did not run.
 abbrev pub DeferredReleaseScans : Type 0
 DeferredReleaseScans =
     eventLines byPriority (fresh (rising 2 fourTasks)) 0
     (plainEvent Arrive 0 0 ∷ writes 1 0 1 ∷ plainEvent Arrive 2 1 ∷ writes 3 1 1 ∷ plainEvent Arrive 4 2 ∷ writes 5 2 2 ∷ plainEvent Arrive 6 3
     ∷ plainEvent Commit 7 0 ∷ writes 8 3 2 ∷ [])
     ≡ event 0 Arrive 0 Ok ∷ event 1 Release 0 Run ∷ event 2 Arrive 1 Ok ∷ event 3 Release 1 (Wait 1 1) ∷ event 4 Arrive 2 Ok ∷ event 5 Release 2 Run
-    ∷ event 6 Arrive 3 Ok ∷ event 7 Commit 0 Ok ∷ event 8 Release 3 (Wait 2 1) ∷ admit 8 1 1 ∷ end 9 0 ∷ []
+    ∷ event 6 Arrive 3 Ok ∷ event 7 Commit 0 Ok ∷ event 8 Release 3 (Wait 2 1) ∷ admit 8 1 1 0 ∷ end 9 0 ∷ []
 
 -- the same, but that 3 finishes: 'a finish and a deferred release scan too, since both can free one'
 abbrev pub FinishScans : Type 0
@@ -92,10 +92,10 @@ FinishScans =
     (plainEvent Arrive 0 0 ∷ writes 1 0 1 ∷ plainEvent Arrive 2 1 ∷ writes 3 1 1 ∷ plainEvent Arrive 4 2 ∷ writes 5 2 2 ∷ plainEvent Arrive 6 3
     ∷ plainEvent Commit 7 0 ∷ plainEvent Finish 8 3 ∷ [])
     ≡ event 0 Arrive 0 Ok ∷ event 1 Release 0 Run ∷ event 2 Arrive 1 Ok ∷ event 3 Release 1 (Wait 1 1) ∷ event 4 Arrive 2 Ok ∷ event 5 Release 2 Run
-    ∷ event 6 Arrive 3 Ok ∷ event 7 Commit 0 Ok ∷ event 8 Finish 3 Ok ∷ admit 8 1 1 ∷ end 9 0 ∷ []
+    ∷ event 6 Arrive 3 Ok ∷ event 7 Commit 0 Ok ∷ event 8 Finish 3 Ok ∷ admit 8 1 1 0 ∷ end 9 0 ∷ []
 
 -- 'Testing all waiting ones against the m-set as it was before the scan, and admitting two that clash': 1 and 2 both wait to write what 0 writes; when 0
--- commits there is room for both, and 2, which ranks higher, is admitted alone
+-- commits there is room for both, and 2, which ranks higher, is admitted alone. It ran: just before that commit one was executing.
 abbrev pub clashingEvents : List Event
 clashingEvents =
     plainEvent Arrive 0 0 ∷ writes 1 0 1 ∷ plainEvent Arrive 2 1 ∷ writes 3 1 1 ∷ plainEvent Arrive 4 2 ∷ writes 5 2 1 ∷ plainEvent Commit 6 0 ∷ []
@@ -104,21 +104,37 @@ abbrev pub OneOfTwoAdmitted : Type 0
 OneOfTwoAdmitted =
     eventLines byPriority (fresh (rising 3 fourTasks)) 0 clashingEvents
     ≡ event 0 Arrive 0 Ok ∷ event 1 Release 0 Run ∷ event 2 Arrive 1 Ok ∷ event 3 Release 1 (Wait 1 1) ∷ event 4 Arrive 2 Ok
-    ∷ event 5 Release 2 (Wait 1 1) ∷ event 6 Commit 0 Ok ∷ admit 6 2 1 ∷ end 7 0 ∷ []
+    ∷ event 5 Release 2 (Wait 1 1) ∷ event 6 Commit 0 Ok ∷ admit 6 2 1 1 ∷ end 7 0 ∷ []
 
 -- 'Letting a task just committed keep its old sets': the four words of task 0's write set are 0 after its commit
 abbrev pub CommittedEmpty : Type 0
 CommittedEmpty = take 4 (after byPriority (fresh (rising 3 fourTasks)) clashingEvents .writes) ≡ empty
 
 -- 'the retry count of every waiting transaction that clashes with the committed one rises by 1', and of no other: 2 commits while 1 waits for 0, and does not clash
--- with it
+-- with it. Just before 0 commits, one executes and one is plain, so 1 ran.
 abbrev pub OnlyClashingCommits : Type 0
 OnlyClashingCommits =
     eventLines byPriority (fresh (rising 3 fourTasks)) 0
     (plainEvent Arrive 0 0 ∷ writes 1 0 1 ∷ plainEvent Arrive 2 1 ∷ writes 3 1 1 ∷ plainEvent Arrive 4 2 ∷ writes 5 2 2 ∷ plainEvent Commit 6 2
     ∷ plainEvent Commit 7 0 ∷ [])
     ≡ event 0 Arrive 0 Ok ∷ event 1 Release 0 Run ∷ event 2 Arrive 1 Ok ∷ event 3 Release 1 (Wait 1 1) ∷ event 4 Arrive 2 Ok ∷ event 5 Release 2 Run
-    ∷ event 6 Commit 2 Ok ∷ event 7 Commit 0 Ok ∷ admit 7 1 1 ∷ end 8 0 ∷ []
+    ∷ event 6 Commit 2 Ok ∷ event 7 Commit 0 Ok ∷ admit 7 1 1 1 ∷ end 8 0 ∷ []
+
+-- ---- request 2: a retry that ran, and some that did not
+
+-- m = 3, priorities 10, 20, 30, 40 for tasks 0 to 3. 0 executes reading 3 and writing 1; 1 executes writing 2; 2 releases writing 3 and waits for 0; 3 releases reading 1
+-- and writing 2 and waits for both. By hand:
+--   Just before 0 commits: executing 0 and 1, plain none, waiting 2 and 3. Both clash with 0, so both have clash count 1. For task 3: 2 + 0 + 0, since 2 ranks below it,
+--   is less than 3: it ran, and has retry count 1. For task 2: 2 + 0 + 1 is not: retry count 0. The scan admits task 2; task 3 clashes with 1.
+--   Just before 1 commits: executing 1 and 2, plain 0, waiting 3. It clashes with 1, so it has clash count 2. 2 + 1 + 0 is not less than 3, though 0 ranks below it: it did
+--   not run, and its retry count stays 1. The scan admits it.
+abbrev pub RanAndDidNot : Type 0
+RanAndDidNot =
+    eventLines byPriority (fresh (rising 3 fourTasks)) 0
+    (plainEvent Arrive 0 0 ∷ releaseOf 1 0 (only 3) (only 1) ∷ plainEvent Arrive 2 1 ∷ writes 3 1 2 ∷ plainEvent Arrive 4 2 ∷ writes 5 2 3
+    ∷ plainEvent Arrive 6 3 ∷ releaseOf 7 3 (only 1) (only 2) ∷ plainEvent Commit 8 0 ∷ plainEvent Commit 9 1 ∷ [])
+    ≡ event 0 Arrive 0 Ok ∷ event 1 Release 0 Run ∷ event 2 Arrive 1 Ok ∷ event 3 Release 1 Run ∷ event 4 Arrive 2 Ok ∷ event 5 Release 2 (Wait 3 1)
+    ∷ event 6 Arrive 3 Ok ∷ event 7 Release 3 (Wait 1 2) ∷ event 8 Commit 0 Ok ∷ admit 8 2 1 0 ∷ event 9 Commit 1 Ok ∷ admit 9 3 2 1 ∷ end 10 0 ∷ []
 
 -- ---- at the edge of a refusal
 

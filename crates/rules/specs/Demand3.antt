@@ -1,6 +1,6 @@
 -- Demand 3: 'Over any run of calls from a fresh setup: once running, running until its own commit; one that waits clashes with a running one or has no processor; its
--- retry count is the number of clashing transactions that committed while it waited, and is at most the sum.' The statements, over any strict ranking that stays
--- while a job is present, any start and any list of calls, refused ones included. History has what they say of the calls; the proofs are in proofs/Demand3.antt.
+-- retry count is the number of clashing transactions that committed while it waited, and is at most the sum.' Request 2: 'Demand 3 speaks of the clash count from now
+-- on, and adds that retries never exceed it.' The statements, over any strict ranking that stays while a job is present, any start and any list of calls, refused ones included. History has what they say of the calls; the proofs are in proofs/Demand3.antt.
 use Prim.Native.Nat.{ℕ, _+_, _≤_, _<_}
 use mathlib.Core.Path.{_≡_}
 use mathlib.Core.Logic.{_⊎_, _≢_}
@@ -17,14 +17,15 @@ use Rattle.rules.specs.declared.Session.{Session}
 use Rattle.rules.specs.declared.Event.{Event}
 use Rattle.rules.specs.declared.Answer.{Answer}
 use Rattle.rules.specs.Ranking.{Ranking}
-use Rattle.rules.specs.Tasks.{isAbsent, retriesOf, taskAt, stateAt, waiting, executing, setsAt}
+use Rattle.rules.specs.Tasks.{isAbsent, waitOf, taskAt, stateAt, waiting, executing, setsAt}
 use Rattle.rules.specs.Setup.{setupNumber, fresh}
 use Rattle.rules.specs.Room.{room}
 use Rattle.rules.specs.Contest.{Blocked}
+use Rattle.rules.specs.Scan.{noAdmission}
 use Rattle.rules.specs.Events.{step}
 use Rattle.rules.specs.Sum.{summed}
 use Rattle.rules.specs.Reachable.{Strict, Stays, Sound}
-use Rattle.rules.specs.History.{Call, heard, noAdmission, commits, Stage, absent, plain, waits, executes, stage, transaction, released, began, lasted, waitLength, passed}
+use Rattle.rules.specs.History.{Call, heard, commits, Stage, absent, plain, waits, executes, stage, transaction, released, began, lasted, waitLength, passed, lastArrival, retried}
 
 -- ---- a run
 
@@ -43,17 +44,17 @@ pub data Run (rank : Ranking) (start : Session) : Session → List Call → Type
   called : {s : Session} {calls : List Call} → Run rank start s calls → (e : Event)
       → Run rank start (step rank s e .session) (heard e (step rank s e) ∷ calls)
 
-abbrev pub InEveryRun : (Ranking → Session → List Call → Type 0) → Type 0
+abbrev pub InEveryRun : (Ranking → Session → Session → List Call → Type 0) → Type 0
 InEveryRun Holds =
     (rank : Ranking) → Strict rank → Stays rank → (start s : Session) (calls : List Call) → Start rank start → Run rank start s calls
-    → Holds rank s calls
+    → Holds rank start s calls
 
--- every session of a run is sound, and so no largest value is ever reached: a retry count, and one more, is below the largest that is held
+-- every session of a run is sound, and so no largest value is ever reached: a clash count, and one more, is below the largest that is held
 abbrev pub RunSound : Type 0
-RunSound = InEveryRun (λ rank s calls. Sound rank s)
+RunSound = InEveryRun (λ rank start s calls. Sound rank s)
 
-abbrev pub RetriesFit : Type 0
-RetriesFit = InEveryRun (λ rank s calls. (i : ℕ) → i < s .n → retriesOf (stateAt s i) + 1 < 4294967295)
+abbrev pub ClashesFit : Type 0
+ClashesFit = InEveryRun (λ rank start s calls. (i : ℕ) → i < s .n → waitOf (stateAt s i) .clashes + 1 < 4294967295)
 
 -- two transactions have the same objects: the same four words of each set
 abbrev pub SameSets : Sets → Sets → Type 0
@@ -72,7 +73,7 @@ RunsOn s s′ more =
     (i : ℕ) → i < s .n → executing s i ≡ true → commitsIn more i ≡ false → (executing s′ i ≡ true) × SameSets (setsAt s′ i) (setsAt s i)
 
 abbrev pub OnceRunning : Type 0
-OnceRunning = InEveryRun (λ rank s calls. (s′ : Session) (more : List Call) → Run rank s s′ more → RunsOn s s′ more)
+OnceRunning = InEveryRun (λ rank start s calls. (s′ : Session) (more : List Call) → Run rank s s′ more → RunsOn s s′ more)
 
 -- ---- b. 'one that waits clashes with a running one or has no processor'
 
@@ -80,27 +81,35 @@ abbrev pub Held : Ranking → Session → Type 0
 Held rank s = (i : ℕ) → i < s .n → waiting s i ≡ true → Blocked s (setsAt s i) ⊎ (room rank s i ≡ false)
 
 abbrev pub HeldBack : Type 0
-HeldBack = InEveryRun (λ rank s calls. Held rank s)
+HeldBack = InEveryRun (λ rank start s calls. Held rank s)
 
--- ---- c. 'its retry count is the number of clashing transactions that committed while it waited'
+-- ---- c. its clash count 'is the number of clashing transactions that committed while it waited'; its retry count is the number of those just before which it ran; 'retries
+-- never exceed it'
 
-abbrev pub Counts : Session → List Call → Type 0
-Counts s calls = (i : ℕ) (w : Wait) → i < s .n → stateAt s i ≡ Waiting w → w .retries ≡ passed i calls
+pub record Counted (rank : Ranking) (start : Session) (calls : List Call) (i clashes retries : ℕ) : Type 0 where
+  pub passes : clashes ≡ passed i calls
+  pub reruns : retries ≡ retried rank start i calls
+  pub fewer : retries ≤ clashes
 
-abbrev pub RetriesCounted : Type 0
-RetriesCounted = InEveryRun (λ rank s calls. Counts s calls)
+-- the counts of every task that waits
+abbrev pub WaitsCount : Ranking → Session → Session → List Call → Type 0
+WaitsCount rank start s calls =
+    (i : ℕ) (w : Wait) → i < s .n → stateAt s i ≡ Waiting w → Counted rank start calls i (w .clashes) (w .retries)
+
+abbrev pub WaitsCounted : Type 0
+WaitsCounted = InEveryRun WaitsCount
 
 -- and of each admission: the call that admits it is one of the calls, so a commit whose scan admits it counts too
-abbrev pub AdmissionsCount : Event → Answer → List Call → Type 0
-AdmissionsCount e answer calls =
+abbrev pub AdmissionsCount : Ranking → Session → Event → Answer → List Call → Type 0
+AdmissionsCount rank start e answer calls =
     (k : ℕ) → k < answer .admitted .count
     → let a = getD (answer .admitted .list) k noAdmission in
-    a .retries ≡ passed (a .task) (heard e answer ∷ calls)
+    Counted rank start (heard e answer ∷ calls) (a .task) (a .clashes) (a .retries)
 
 abbrev pub AdmittedCounted : Type 0
-AdmittedCounted = InEveryRun (λ rank s calls. (e : Event) → AdmissionsCount e (step rank s e) calls)
+AdmittedCounted = InEveryRun (λ rank start s calls. (e : Event) → AdmissionsCount rank start e (step rank s e) calls)
 
--- ---- d. 'and is at most the sum': of its present wait, or of its last one where it does not wait
+-- ---- d. the clash count 'is at most the sum': of its present wait, or of its last one where it does not wait
 
 abbrev pub Within : Session → List Call → Type 0
 Within s calls =
@@ -109,7 +118,7 @@ Within s calls =
     (answer .number ≡ 0) × (passed i calls ≤ answer .sum)
 
 abbrev pub Bounded : Type 0
-Bounded = InEveryRun (λ rank s calls. Within s calls)
+Bounded = InEveryRun (λ rank start s calls. Within s calls)
 
 -- ---- e. no two running transactions clash, and at most m run
 
@@ -118,7 +127,7 @@ Apart s =
     (i j : ℕ) → i < s .n → j < s .n → i ≢ j → executing s i ≡ true → executing s j ≡ true → Clash (setsAt s i) (setsAt s j) → ⊥
 
 abbrev pub RunningApart : Type 0
-RunningApart = InEveryRun (λ rank s calls. Apart s × (count (s .n) (executing s) ≤ s .m))
+RunningApart = InEveryRun (λ rank start s calls. Apart s × (count (s .n) (executing s) ≤ s .m))
 
 -- ---- f. history says what the session says
 
@@ -128,13 +137,15 @@ stageOf Plain = plain
 stageOf (Waiting w) = waits
 stageOf Executing = executes
 
--- task i's state; its sets; its wait's beginning, and that it has come to the last accepted tick; its releases
-pub record Told (s : Session) (calls : List Call) (i : ℕ) : Type 0 where
+-- task i's state; its sets; its wait's beginning, and that it has come to the last accepted tick; its releases; its terms, and its last arrival
+pub record Told (start s : Session) (calls : List Call) (i : ℕ) : Type 0 where
   pub stands : stage i calls ≡ stageOf (stateAt s i)
   pub sets : (waiting s i || executing s i) ≡ true → SameSets (setsAt s i) (transaction i calls)
   pub release : (w : Wait) → stateAt s i ≡ Waiting w → w .release ≡ began i calls
   pub length : (w : Wait) → stateAt s i ≡ Waiting w → lasted i calls ≡ s .tick
   pub releases : taskAt s i .releases ≡ released i calls
+  pub terms : taskAt s i .terms ≡ taskAt start i .terms
+  pub arrival : taskAt s i .arrival ≡ lastArrival start i calls
 
 abbrev pub AsTold : Type 0
-AsTold = InEveryRun (λ rank s calls. (i : ℕ) → i < s .n → Told s calls i)
+AsTold = InEveryRun (λ rank start s calls. (i : ℕ) → i < s .n → Told start s calls i)

@@ -19,7 +19,7 @@ use Rattle.rules.specs.declared.Said.the-variants.{Ok, Run, Wait, No}
 use Rattle.rules.specs.declared.Answer.{Answer}
 use Rattle.rules.specs.Ranking.{Ranking}
 use Rattle.rules.specs.Tasks.{isAbsent, isPlain, isExecuting, taskAt, stateAt, waiting, setsAt, setsOf, known, inState, withTasks, withTask, withSets, stamped}
-use Rattle.rules.specs.Room.{room}
+use Rattle.rules.specs.Room.{room, ran}
 use Rattle.rules.specs.Contest.{blocked, lowestContested, contestedCount}
 use Rattle.rules.specs.Scan.{Scanned, none, scan}
 
@@ -90,6 +90,10 @@ abbrev pub releasedInto : Session → ℕ → ℕ → List ℕ → List ℕ → 
 releasedInto s tick i reads writes state =
     withSets (withTask (stamped s tick) i (released (taskAt s i) state)) i reads writes
 
+-- a wait that begins at this tick, with both its counts 0
+abbrev pub begins : ℕ → State
+begins tick = Waiting (record { release = tick; clashes = 0; retries = 0 })
+
 -- 'It clashes with no executing transaction: it becomes executing. Otherwise it becomes waiting with retry count 0, the answer gives the lowest contested
 -- object number, and how many objects are contested, and a scan follows.'
 unfoldable pub releaseAccepted : Ranking → Session → ℕ → ℕ → List ℕ → List ℕ → Answer
@@ -97,7 +101,7 @@ unfolding blocked lowestContested contestedCount scan
 releaseAccepted rank s tick i reads writes =
     let x = setsOf reads writes in
     let wait = Wait (lowestContested s x) (contestedCount s x) in
-    let waits = scanning rank wait (releasedInto s tick i reads writes (Waiting (record { release = tick; retries = 0 }))) in
+    let waits = scanning rank wait (releasedInto s tick i reads writes (begins tick)) in
     let runs = still Run (releasedInto s tick i reads writes Executing) in
     cond (blocked s x) waits runs
 
@@ -107,39 +111,46 @@ release rank s tick i reads writes =
     let accepts = releaseAccepted rank s tick i reads writes in
     cond (eqb (releaseNumber rank s tick i) 0) accepts (refused s (releaseNumber rank s tick i))
 
--- A retry count rises by 1, and stops at the largest that is held. A session that a setup led to never gets there: it takes no more than 1,000,000 events.
-abbrev pub raisedState : State → State
-raisedState Absent = Absent
-raisedState Plain = Plain
-raisedState (Waiting w) = Waiting (record { release = w .release; retries = min (w .retries + 1) 4294967295 })
-raisedState Executing = Executing
+-- A count rises by 1, and stops at the largest that is held. A session that a setup led to never gets there: it takes no more than 1,000,000 events.
+abbrev pub oneMore : ℕ → ℕ
+oneMore k = min (k + 1) 4294967295
 
-abbrev pub raisedTask : Task → Task
-raisedTask t = inState t (raisedState (t .state))
+-- The clash count rises by 1, and the retry count too where the transaction ran.
+abbrev pub raisedState : Bool → State → State
+raisedState hadRun Absent = Absent
+raisedState hadRun Plain = Plain
+raisedState hadRun (Waiting w) =
+    Waiting (record { release = w .release; clashes = oneMore (w .clashes); retries = cond hadRun (oneMore (w .retries)) (w .retries) })
+raisedState hadRun Executing = Executing
 
--- 'the retry count of every waiting transaction that clashes with the committed one rises by 1', for the tasks below k
-unfoldable pub raised : Session → Sets → ℕ → List Task
+abbrev pub raisedTask : Bool → Task → Task
+raisedTask hadRun t = inState t (raisedState hadRun (t .state))
+
+-- 'the retry count of every waiting transaction that clashes with the committed one rises by 1', which is the clash count now: for the tasks below k, of which those
+-- that hadRun names ran just before the commit
+unfoldable pub raised : (ℕ → Bool) → Session → Sets → ℕ → List Task
 unfolding clash
-raised s x zero = s .tasks
-raised s x (suc k) =
-    cond (waiting s k && clash x (setsAt s k)) (set (raised s x k) k (raisedTask (taskAt s k))) (raised s x k)
+raised hadRun s x zero = s .tasks
+raised hadRun s x (suc k) =
+    cond (waiting s k && clash x (setsAt s k)) (set (raised hadRun s x k) k (raisedTask (hadRun k) (taskAt s k))) (raised hadRun s x k)
 
 -- the groups of an empty set
 abbrev pub empty : List ℕ
 empty = replicate 4 0
 
--- 'executing becomes plain', and its sets are gone. 'First the retry count of every waiting transaction that clashes with the committed one rises by 1'
-abbrev pub committed : Session → ℕ → ℕ → Session
-committed s tick i =
-    let raisedSession = withTasks (stamped s tick) (raised s (setsAt s i) (s .n)) in
+-- 'executing becomes plain', and its sets are gone. 'First the retry count of every waiting transaction that clashes with the committed one rises by 1'. Who ran is
+-- asked of the session just before the commit.
+abbrev pub committed : Ranking → Session → ℕ → ℕ → Session
+committed rank s tick i =
+    let raisedSession = withTasks (stamped s tick) (raised (ran rank s) s (setsAt s i) (s .n)) in
     let plainSession = withTask raisedSession i (inState (taskAt s i) Plain) in
     withSets plainSession i empty empty
 
 -- 'then a scan follows.'
 unfoldable pub commit : Ranking → Session → ℕ → ℕ → Answer
-unfolding commitNumber raised scan
+unfolding commitNumber ran raised scan
 commit rank s tick i =
-    let accepts = scanning rank Ok (committed s tick i) in
+    let accepts = scanning rank Ok (committed rank s tick i) in
     cond (eqb (commitNumber s tick i) 0) accepts (refused s (commitNumber s tick i))
 
 -- 'finish: a plain task on a processor becomes absent, and a scan follows.' Its releases are '0 while absent'.

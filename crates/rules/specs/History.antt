@@ -1,11 +1,15 @@
--- History: what the list of calls and their answers says, and nothing else. A call holds no session and no retry count, so nothing here can be a stored count under
--- another name. Lists of calls have the latest first.
+-- History: what the list of calls and their answers says, and nothing else. A call holds no session and no count, so nothing here can be a stored count under another
+-- name; nor does the start of a run, in which every task is absent. Lists of calls have the latest first.
 use Prim.Native.Nat.{ℕ, _+_, _-_}
 use mathlib.Core.List.{List, [], _∷_}
 use mathlib.Core.Bool.{Bool, true, false, cond, not, _&&_, _||_}
-use lib.Dec.{eqb}
-use Rattle.objects.specs.Below.{one}
+use lib.Dec.{eqb, ltb}
+use Rattle.objects.specs.Below.{one, count}
 use Rattle.objects.specs.Objects.{Sets, clash, nothing}
+use Rattle.rules.specs.declared.State.the-variants.{Plain}
+use Rattle.rules.specs.declared.Arrival.{Arrival}
+use Rattle.rules.specs.declared.Arrival.the-variants.{At}
+use Rattle.rules.specs.declared.Session.{Session}
 use Rattle.rules.specs.declared.Kind.{Kind}
 use Rattle.rules.specs.declared.Kind.the-variants.{Arrive, Release, Commit, Finish}
 use Rattle.rules.specs.declared.Event.{Event}
@@ -14,7 +18,8 @@ use Rattle.rules.specs.declared.Said.the-variants.{Ok, Run, Wait, No}
 use Rattle.rules.specs.declared.Admission.{Admission}
 use Rattle.rules.specs.declared.Answer.{Answer}
 use Rattle.rules.specs.Answers.{number}
-use Rattle.rules.specs.Tasks.{setsOf}
+use Rattle.rules.specs.Ranking.{Ranking}
+use Rattle.rules.specs.Tasks.{taskAt, setsOf}
 use Rattle.rules.specs.Lines.{admissions}
 
 -- ---- calls
@@ -25,14 +30,10 @@ pub record Call : Type 0 where
   pub said : Said
   pub admitted : List ℕ
 
--- the tasks that are listed, without their retry counts
+-- the tasks that are listed, without their counts
 unfoldable pub tasksOf : List Admission → List ℕ
 tasksOf [] = []
 tasksOf (a ∷ more) = a .task ∷ tasksOf more
-
--- what stands in the unused places of a list
-abbrev pub noAdmission : Admission
-noAdmission = record { task = 0; retries = 0 }
 
 -- the call of an event that had this answer
 abbrev pub heard : Event → Answer → Call
@@ -131,6 +132,18 @@ isWaits executes = false
 abbrev pub inWait : ℕ → List Call → Bool
 inWait i calls = isWaits (stage i calls)
 
+abbrev pub isPlains : Stage → Bool
+isPlains absent = false
+isPlains plain = true
+isPlains waits = false
+isPlains executes = false
+
+abbrev pub isExecutes : Stage → Bool
+isExecutes absent = false
+isExecutes plain = false
+isExecutes waits = false
+isExecutes executes = true
+
 -- the sets of task i's transaction: those of its last accepted release
 unfoldable pub transaction : ℕ → List Call → Sets
 unfolding nothing
@@ -172,7 +185,37 @@ passes i c before =
     let j = c .event .task in
     accepted c && isCommit (c .event .kind) && not (eqb j i) && clash (transaction j before) (transaction i before)
 
--- 'the number of clashing transactions that committed while it waited'
+-- the clash count: 'the number of clashing transactions that committed while it waited'
 unfoldable pub passed : ℕ → List Call → ℕ
 unfolding during passes
 passed i calls = during (passes i) i calls
+
+-- ---- at which of those it ran, in a run from this start, which has m, n, the terms and the arrivals before it
+
+-- 'its last arrival, if any'
+unfoldable pub lastArrival : Session → ℕ → List Call → Arrival
+lastArrival start i [] = taskAt start i .arrival
+lastArrival start i (c ∷ before) = cond (arrives c i) (At (c .event .tick)) (lastArrival start i before)
+
+-- its rank, which goes by its terms and its last arrival
+abbrev pub rankBy : Ranking → Session → List Call → ℕ → ℕ
+rankBy rank start calls i = rank (record { terms = taskAt start i .terms; state = Plain; arrival = lastArrival start i calls; releases = 0 }) i
+
+-- 'executing tasks plus all plain tasks plus waiting tasks ranked above this one are fewer than m', by the calls
+unfoldable pub ranBy : Ranking → Session → ℕ → List Call → Bool
+unfolding count stage lastArrival
+ranBy rank start i calls =
+    let executing = count (start .n) (λ j. isExecutes (stage j calls)) in
+    let plain = count (start .n) (λ j. isPlains (stage j calls)) in
+    let above = count (start .n) (λ j. inWait j calls && ltb (rankBy rank start calls j) (rankBy rank start calls i)) in
+    ltb (executing + plain + above) (start .m)
+
+-- the call passes over task i's transaction, which ran just before it
+unfoldable pub reruns : Ranking → Session → ℕ → Call → List Call → Bool
+unfolding passes ranBy
+reruns rank start i c before = passes i c before && ranBy rank start i before
+
+-- the retry count: 'A retry is booked at a clashing commit only if, just before it, ..'
+unfoldable pub retried : Ranking → Session → ℕ → List Call → ℕ
+unfolding during reruns
+retried rank start i calls = during (reruns rank start i) i calls

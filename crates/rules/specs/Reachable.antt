@@ -13,7 +13,7 @@ use Rattle.rules.specs.declared.Session.{Session}
 use Rattle.rules.specs.declared.Event.{Event}
 use Rattle.rules.specs.Answers.{number}
 use Rattle.rules.specs.Ranking.{Ranking}
-use Rattle.rules.specs.Tasks.{isAbsent, retriesOf, taskAt, stateAt, waiting, executing, setsAt, noTask}
+use Rattle.rules.specs.Tasks.{isAbsent, waitOf, taskAt, stateAt, waiting, executing, setsAt, noTask}
 use Rattle.rules.specs.Setup.{setupNumber, fresh, termsNumber}
 use Rattle.rules.specs.Room.{room}
 use Rattle.rules.specs.Contest.{blocked}
@@ -51,9 +51,9 @@ pub record Sound (rank : Ranking) (s : Session) : Type 0 where
   pub fit : count (s .n) (executing s) ≤ s .m
   -- a waiting one clashes with an executing one or has no room
   pub held : (i : ℕ) → i < s .n → waiting s i ≡ true → (blocked s (setsAt s i) ≡ true) ⊎ (room rank s i ≡ false)
-  -- releases are at most what the task allows; a retry count is at most the accepted events; a last arrival is at most the last tick
+  -- releases are at most what the task allows; a clash count is at most the accepted events; a last arrival is at most the last tick
   pub releases : (i : ℕ) → i < s .n → taskAt s i .releases ≤ taskAt s i .terms .transactions
-  pub retries : (i : ℕ) → i < s .n → retriesOf (stateAt s i) ≤ s .accepted
+  pub clashes : (i : ℕ) → i < s .n → waitOf (stateAt s i) .clashes ≤ s .accepted
   pub arrivals : (i a : ℕ) → i < s .n → taskAt s i .arrival ≡ At a → a ≤ s .tick
   pub accepted : s .accepted ≤ 1000000
   -- the normal form: a task that is neither waiting nor executing has empty groups; an absent task has no releases; a task past n is as in a fresh session

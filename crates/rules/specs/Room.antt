@@ -1,11 +1,11 @@
--- Room: who has a processor.
+-- Who has a processor: room, and of those that wait, who ran.
 use Prim.Native.Nat.{ℕ, _+_}
 use mathlib.Core.Bool.{Bool, _&&_}
 use lib.Dec.{ltb}
 use Rattle.objects.specs.Below.{count}
 use Rattle.rules.specs.declared.Session.{Session}
 use Rattle.rules.specs.Ranking.{Ranking}
-use Rattle.rules.specs.Tasks.{taskAt, plain, executing}
+use Rattle.rules.specs.Tasks.{taskAt, plain, waiting, executing}
 
 abbrev pub rankAt : Ranking → Session → ℕ → ℕ
 rankAt rank s i = rank (taskAt s i) i
@@ -19,3 +19,13 @@ plainAbove rank s i j = plain s j && ltb (rankAt rank s j) (rankAt rank s i)
 unfoldable pub room : Ranking → Session → ℕ → Bool
 unfolding count
 room rank s i = ltb (count (s .n) (executing s) + count (s .n) (plainAbove rank s i)) (s .m)
+
+-- 'waiting tasks ranked above this one'
+abbrev pub waitingAbove : Ranking → Session → ℕ → ℕ → Bool
+waitingAbove rank s i j = waiting s j && ltb (rankAt rank s j) (rankAt rank s i)
+
+-- Request 2: 'A retry is booked at a clashing commit only if, just before it, executing tasks plus all plain tasks plus waiting tasks ranked above this one are
+-- fewer than m.' So a processor was left on which the transaction of task i, which waits, ran and now runs again.
+unfoldable pub ran : Ranking → Session → ℕ → Bool
+unfolding count
+ran rank s i = ltb (count (s .n) (executing s) + count (s .n) (plain s) + count (s .n) (waitingAbove rank s i)) (s .m)

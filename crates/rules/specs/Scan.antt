@@ -4,11 +4,13 @@ use mathlib.Core.Bool.{Bool, cond, not, _&&_, _||_}
 use lib.Dec.{eqb, leb, ltb}
 use lib.ListN.{set, replicate}
 use Rattle.objects.specs.Below.{any}
+use Rattle.rules.specs.declared.State.{State}
 use Rattle.rules.specs.declared.State.the-variants.{Executing}
 use Rattle.rules.specs.declared.Session.{Session}
+use Rattle.rules.specs.declared.Admission.{Admission}
 use Rattle.rules.specs.declared.Admissions.{Admissions}
 use Rattle.rules.specs.Ranking.{Ranking}
-use Rattle.rules.specs.Tasks.{taskAt, stateAt, retriesOf, waiting, setsAt, inState, withTask}
+use Rattle.rules.specs.Tasks.{taskAt, stateAt, waitOf, waiting, setsAt, inState, withTask}
 use Rattle.rules.specs.Room.{rankAt, room}
 use Rattle.rules.specs.Contest.{blocked}
 
@@ -32,17 +34,25 @@ pub record Scanned : Type 0 where
   pub admitted : Admissions
   pub session : Session
 
+-- what stands in the unused places of a list
+abbrev pub noAdmission : Admission
+noAdmission = record { task = 0; clashes = 0; retries = 0 }
+
 -- no admission
 abbrev pub none : Admissions
-none = record { count = 0; list = replicate 16 (record { task = 0; retries = 0 }) }
+none = record { count = 0; list = replicate 16 noAdmission }
 
--- 'The answer lists the admitted tasks in that order, each with its retry count.'
-abbrev pub listed : Admissions → ℕ → ℕ → Admissions
-listed a i retries = record { count = a .count + 1; list = set (a .list) (a .count) (record { task = i; retries = retries }) }
+-- a task that is admitted out of this state, with its clash count and its retry count
+abbrev pub admission : ℕ → State → Admission
+admission i state = record { task = i; clashes = waitOf state .clashes; retries = waitOf state .retries }
+
+-- 'The answer lists the admitted tasks in that order, each with its retry count', and since request 2 with both counts.
+abbrev pub listed : Admissions → Admission → Admissions
+listed a new = record { count = a .count + 1; list = set (a .list) (a .count) new }
 
 abbrev pub admit : Scanned → ℕ → Scanned
 admit x i = record {
-  admitted = listed (x .admitted) i (retriesOf (stateAt (x .session) i));
+  admitted = listed (x .admitted) (admission i (stateAt (x .session) i));
   session = withTask (x .session) i (inState (taskAt (x .session) i) Executing);
 }
 

@@ -6,6 +6,7 @@ use lib.Dec.{leb, ltb}
 use lib.ListN.{getD, set}
 use Rattle.objects.specs.Objects.{Sets, groupsAt}
 use Rattle.rules.specs.declared.Terms.{Terms}
+use Rattle.rules.specs.declared.Wait.{Wait}
 use Rattle.rules.specs.declared.State.{State}
 use Rattle.rules.specs.declared.State.the-variants.{Absent, Plain, Waiting, Executing}
 use Rattle.rules.specs.declared.Arrival.{Arrival}
@@ -14,7 +15,7 @@ use Rattle.rules.specs.declared.Task.{Task}
 use Rattle.rules.specs.declared.Session.{Session}
 
 -- 'A task is in exactly one of four states: absent; plain (its job runs ordinary code); waiting (in the n-set, with release tick and retry count);
--- executing (in the m-set).'
+-- executing (in the m-set).' Since request 2 the count that 01 speaks of is the clash count, and the retry count stands beside it.
 abbrev pub isAbsent : State → Bool
 isAbsent Absent = true
 isAbsent Plain = false
@@ -39,12 +40,15 @@ isExecuting Plain = false
 isExecuting (Waiting w) = false
 isExecuting Executing = true
 
--- the retry count of a waiting task, and 0 of any other
-abbrev pub retriesOf : State → ℕ
-retriesOf Absent = 0
-retriesOf Plain = 0
-retriesOf (Waiting w) = w .retries
-retriesOf Executing = 0
+-- the wait of a task that does not wait
+abbrev pub noWait : Wait
+noWait = record { release = 0; clashes = 0; retries = 0 }
+
+abbrev pub waitOf : State → Wait
+waitOf Absent = noWait
+waitOf Plain = noWait
+waitOf (Waiting w) = w
+waitOf Executing = noWait
 
 -- 'A fresh session has every task absent with no arrival': a task at these terms.
 abbrev pub freshTask : Terms → Task

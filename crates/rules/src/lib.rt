@@ -14,9 +14,10 @@ pub struct Setup {
     pub terms: [Terms; 64],
 }
 
-// A wait: the tick of its release, and how many clashing transactions have committed since.
+// A wait: the tick of its release, how many clashing transactions have committed since, and at how many of those commits it ran, just before, on a processor.
 pub struct Wait {
     pub release: u32,
+    pub clashes: u32,
     pub retries: u32,
 }
 
@@ -79,9 +80,10 @@ pub enum Said {
     No(u8),
 }
 
-// A task that a scan admitted, with its retry count.
+// A task that a scan admitted, with its clash count and its retry count.
 pub struct Admission {
     pub task: u8,
+    pub clashes: u32,
     pub retries: u32,
 }
 

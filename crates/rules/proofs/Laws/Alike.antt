@@ -1,4 +1,4 @@
--- Two tasks are alike if they are the same but for a retry count that may have risen by 1. An event leaves every task but its own alike; what a commit raises
+-- Two tasks are alike if they are the same but for the counts of a wait, of which the clash count may have risen by 1. An event leaves every task but its own alike; what a commit raises
 -- is alike too.
 use Prim.Native.Nat.{ℕ, zero, suc, _+_, _≤_, min}
 use mathlib.Core.Path.{_≡_, refl, sym, ap, _∙_}
@@ -17,8 +17,8 @@ use Rattle.rules.specs.declared.State.{State}
 use Rattle.rules.specs.declared.State.the-variants.{Absent, Plain, Waiting, Executing}
 use Rattle.rules.specs.declared.Task.{Task}
 use Rattle.rules.specs.declared.Session.{Session}
-use Rattle.rules.specs.Tasks.{isWaiting, retriesOf, noTask, taskAt, waiting, setsAt, inState}
-use Rattle.rules.specs.Events.{raisedState, raisedTask, raised}
+use Rattle.rules.specs.Tasks.{isWaiting, waitOf, noTask, taskAt, waiting, setsAt, inState}
+use Rattle.rules.specs.Events.{oneMore, raisedState, raisedTask, raised}
 
 -- a law at every place: at one place, and at the others
 pub at-or-other : (i : ℕ) (P : ℕ → Type 0) → P i → ((j : ℕ) → j ≢ i → P j) → (j : ℕ) → P j
@@ -34,7 +34,7 @@ pub record Raised (t u : Task) : Type 0 where
   pub now : Wait
   pub waits : t .state ≡ Waiting before
   pub raises : u ≡ inState t (Waiting now)
-  pub once : now .retries ≤ before .retries + 1
+  pub once : now .clashes ≤ before .clashes + 1
 
 abbrev pub Alike : Task → Task → Type 0
 Alike t u = (u ≡ t) ⊎ Raised t u
@@ -56,9 +56,10 @@ pub alike-state : (f : State → Bool) → ((w v : Wait) → f (Waiting w) ≡ f
 alike-state f h t u (inl e) = ap (λ (x : Task). f (x .state)) e
 alike-state f h t u (inr r) = ap (λ (x : Task). f (x .state)) (r .raises) ∙ h (r .now) (r .before) ∙ sym (ap f (r .waits))
 
-pub alike-retries : (t u : Task) → Alike t u → retriesOf (u .state) ≤ retriesOf (t .state) + 1
-alike-retries t u (inl e) = omega (arith, ap (λ (x : Task). retriesOf (x .state)) e)
-alike-retries t u (inr r) = omega (arith, ap (λ (x : Task). retriesOf (x .state)) (r .raises), ap retriesOf (r .waits), r .once)
+pub alike-clashes : (t u : Task) → Alike t u → waitOf (u .state) .clashes ≤ waitOf (t .state) .clashes + 1
+alike-clashes t u (inl e) = omega (arith, ap (λ (x : Task). waitOf (x .state) .clashes) e)
+alike-clashes t u (inr r) =
+    omega (arith, ap (λ (x : Task). waitOf (x .state) .clashes) (r .raises), ap (λ (x : State). waitOf x .clashes) (r .waits), r .once)
 
 -- a task that does not wait is the same
 pub alike-same : (t u : Task) → isWaiting (t .state) ≡ false → Alike t u → u ≡ t
@@ -67,41 +68,48 @@ alike-same t u n (inr r) = absurd (false≢true (sym n ∙ ap isWaiting (r .wait
 
 -- ---- what a commit raises
 
-raised-once : (t : Task) (state : State) → t .state ≡ state → isWaiting state ≡ true → Raised t (inState t (raisedState state))
-raised-once t Absent e w = absurd (false≢true w)
-raised-once t Plain e w = absurd (false≢true w)
-raised-once t (Waiting v) e w = record {
+raised-once : (b : Bool) (t : Task) (state : State) → t .state ≡ state → isWaiting state ≡ true → Raised t (inState t (raisedState b state))
+raised-once b t Absent e w = absurd (false≢true w)
+raised-once b t Plain e w = absurd (false≢true w)
+raised-once b t (Waiting v) e w = record {
   before = v;
-  now = record { release = v .release; retries = min (v .retries + 1) 4294967295 };
+  now = record { release = v .release; clashes = oneMore (v .clashes); retries = cond b (oneMore (v .retries)) (v .retries) };
   waits = e;
   raises = refl;
   once = omega arith;
 }
-raised-once t Executing e w = absurd (false≢true w)
+raised-once b t Executing e w = absurd (false≢true w)
 
-pub raised-size : (s : Session) (x : Sets) (k : ℕ) → length (raised s x k) ≡ length (s .tasks)
-unfolding raised
-raised-size s x zero = refl
-raised-size s x (suc k) = go (raised-size s x k) (waiting s k && clash x (setsAt s k))
-  where
-    go : length (raised s x k) ≡ length (s .tasks) → (b : Bool)
-        → length (cond b (set (raised s x k) k (raisedTask (taskAt s k))) (raised s x k)) ≡ length (s .tasks)
-    go ih true = length-set (raised s x k) k (raisedTask (taskAt s k)) ∙ ih
-    go ih false = ih
+module _ (hadRun : ℕ → Bool) (s : Session) (x : Sets) where
+  -- the task at place k, raised
+  abbrev up : ℕ → Task
+  up k = raisedTask (hadRun k) (taskAt s k)
 
-pub raised-alike : (s : Session) (x : Sets) (k : ℕ) → k ≤ length (s .tasks) → (j : ℕ) → Alike (taskAt s j) (getD (raised s x k) j noTask)
-unfolding raised
-raised-alike s x zero h j = inl refl
-raised-alike s x (suc k) h j = go (raised-alike s x k (omega arith)) (waiting s k && clash x (setsAt s k)) refl j
-  where
-    row : List Task
-    row = raised s x k
+  pub raised-size : (k : ℕ) → length (raised hadRun s x k) ≡ length (s .tasks)
+  unfolding raised
+  raised-size zero = refl
+  raised-size (suc k) = go (raised-size k) (waiting s k && clash x (setsAt s k))
+    where
+      row : List Task
+      row = raised hadRun s x k
 
-    go : ((j : ℕ) → Alike (taskAt s j) (getD row j noTask)) → (b : Bool) → (waiting s k && clash x (setsAt s k)) ≡ b
-        → (j : ℕ) → Alike (taskAt s j) (getD (cond b (set row k (raisedTask (taskAt s k))) row) j noTask)
-    go ih true e =
-        at-or-other k (λ (j : ℕ). Alike (taskAt s j) (getD (set row k (raisedTask (taskAt s k))) j noTask))
-        (rw (getD-set-same row k (raisedTask (taskAt s k)) noTask (omega (arith, raised-size s x k)))
-        (inr (raised-once (taskAt s k) (taskAt s k .state) refl (and-left (waiting s k) (clash x (setsAt s k)) e))))
-        (λ j d. rw (getD-set-other row k j (raisedTask (taskAt s k)) noTask d) (ih j))
-    go ih false e = ih
+      go : length row ≡ length (s .tasks) → (b : Bool) → length (cond b (set row k (up k)) row) ≡ length (s .tasks)
+      go ih true = length-set row k (up k) ∙ ih
+      go ih false = ih
+
+  pub raised-alike : (k : ℕ) → k ≤ length (s .tasks) → (j : ℕ) → Alike (taskAt s j) (getD (raised hadRun s x k) j noTask)
+  unfolding raised
+  raised-alike zero h j = inl refl
+  raised-alike (suc k) h j = go (raised-alike k (omega arith)) (waiting s k && clash x (setsAt s k)) refl j
+    where
+      row : List Task
+      row = raised hadRun s x k
+
+      go : ((j : ℕ) → Alike (taskAt s j) (getD row j noTask)) → (b : Bool) → (waiting s k && clash x (setsAt s k)) ≡ b
+          → (j : ℕ) → Alike (taskAt s j) (getD (cond b (set row k (up k)) row) j noTask)
+      go ih true e =
+          at-or-other k (λ (j : ℕ). Alike (taskAt s j) (getD (set row k (up k)) j noTask))
+          (rw (getD-set-same row k (up k) noTask (omega (arith, raised-size k)))
+          (inr (raised-once (hadRun k) (taskAt s k) (taskAt s k .state) refl (and-left (waiting s k) (clash x (setsAt s k)) e))))
+          (λ j d. rw (getD-set-other row k j (up k) noTask d) (ih j))
+      go ih false e = ih

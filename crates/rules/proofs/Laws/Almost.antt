@@ -13,7 +13,7 @@ use Rattle.rules.specs.declared.Arrival.the-variants.{At}
 use Rattle.rules.specs.declared.Task.{Task}
 use Rattle.rules.specs.declared.Session.{Session}
 use Rattle.rules.specs.Ranking.{Ranking}
-use Rattle.rules.specs.Tasks.{isAbsent, isWaiting, isExecuting, retriesOf, taskAt, stateAt, waiting, executing, inState, noTask}
+use Rattle.rules.specs.Tasks.{isAbsent, isWaiting, isExecuting, waitOf, taskAt, stateAt, waiting, executing, inState, noTask}
 use Rattle.rules.specs.Setup.{termsNumber}
 use Rattle.rules.specs.Scan.{scan}
 use Rattle.rules.specs.Reachable.{Strict, Stays, EmptyAt, Sound}
@@ -33,7 +33,7 @@ pub record Almost (s : Session) : Type 0 where
   pub apart : Apart s
   pub fit : count (s .n) (executing s) ≤ s .m
   pub releases : (i : ℕ) → i < s .n → taskAt s i .releases ≤ taskAt s i .terms .transactions
-  pub retries : (i : ℕ) → i < s .n → retriesOf (stateAt s i) ≤ s .accepted
+  pub clashes : (i : ℕ) → i < s .n → waitOf (stateAt s i) .clashes ≤ s .accepted
   pub arrivals : (i a : ℕ) → i < s .n → taskAt s i .arrival ≡ At a → a ≤ s .tick
   pub accepted : s .accepted ≤ 1000000
   pub emptied : (i g : ℕ) → i < 64 → g < 4 → waiting s i ≡ false → executing s i ≡ false → EmptyAt s i g
@@ -54,7 +54,7 @@ almost-sound rank s a held = record {
   fit = a .fit;
   held = held;
   releases = a .releases;
-  retries = a .retries;
+  clashes = a .clashes;
   arrivals = a .arrivals;
   accepted = a .accepted;
   emptied = a .emptied;
@@ -89,8 +89,8 @@ module _ (s s′ : Session) (kept : Kept s s′) where
     apart = apart;
     fit = rw (kept .n, kept .m) fit;
     releases = λ i l. each-kept (λ (t : Task). t .releases ≤ t .terms .transactions) i (a .releases i (below-kept i l)) (λ b w. a .releases i b);
-    retries = λ i l.
-        le-trans (each-kept (λ (t : Task). retriesOf (t .state) ≤ s .accepted) i (a .retries i (below-kept i l)) (λ b w. zero-le))
+    clashes = λ i l.
+        le-trans (each-kept (λ (t : Task). waitOf (t .state) .clashes ≤ s .accepted) i (a .clashes i (below-kept i l)) (λ b w. zero-le))
         (le-of-eq (sym (kept .accepted)));
     arrivals = λ i x l e.
         le-trans (each-kept (λ (t : Task). t .arrival ≡ At x → x ≤ s .tick) i (a .arrivals i x (below-kept i l)) (λ b w. a .arrivals i x b) e)

@@ -22,7 +22,7 @@ use Rattle.rules.specs.declared.Arrival.the-variants.{At}
 use Rattle.rules.specs.declared.Task.{Task}
 use Rattle.rules.specs.declared.Session.{Session}
 use Rattle.rules.specs.Ranking.{Ranking}
-use Rattle.rules.specs.Tasks.{isAbsent, isPlain, isWaiting, isExecuting, retriesOf, taskAt, stateAt, plain, waiting, executing, setsAt, noTask, withGroups}
+use Rattle.rules.specs.Tasks.{isAbsent, isPlain, isWaiting, isExecuting, waitOf, taskAt, stateAt, plain, waiting, executing, setsAt, noTask, withGroups}
 use Rattle.rules.specs.Setup.{termsNumber}
 use Rattle.rules.specs.Room.{rankAt, plainAbove, room}
 use Rattle.rules.specs.Contest.{blocked}
@@ -31,7 +31,7 @@ use Rattle.rules.specs.Reachable.{Strict, Stays, EmptyAt, Sound}
 use Rattle.rules.proofs.Laws.Kept.{Apart, Held}
 use Rattle.rules.proofs.Laws.Rows.{Agree, groups-length, groups-other, clash-agree}
 use Rattle.rules.proofs.Laws.Numbers.{Timely}
-use Rattle.rules.proofs.Laws.Alike.{at-or-other, Alike, alike-terms, alike-arrival, alike-releases, alike-state, alike-retries, alike-same}
+use Rattle.rules.proofs.Laws.Alike.{at-or-other, Alike, alike-terms, alike-arrival, alike-releases, alike-state, alike-clashes, alike-same}
 use Rattle.rules.proofs.Laws.Almost.{Almost, almost-sound, scanning-sound}
 
 -- ---- the change
@@ -63,7 +63,7 @@ pub record RowsBeside (s : Session) (i : ℕ) (reads writes : List ℕ) : Type 0
 pub record Fine (s : Session) (i : ℕ) (t : Task) (s′ : Session) : Type 0 where
   pub terms : t .terms ≡ taskAt s i .terms
   pub releases : t .releases ≤ t .terms .transactions
-  pub retries : retriesOf (t .state) ≤ s .accepted + 1
+  pub clashes : waitOf (t .state) .clashes ≤ s .accepted + 1
   pub arrivals : (a : ℕ) → t .arrival ≡ At a → a ≤ s′ .tick
   pub emptied : (g : ℕ) → g < 4 → isWaiting (t .state) ≡ false → isExecuting (t .state) ≡ false → EmptyAt s′ i g
   pub gone : isAbsent (t .state) ≡ true → t .releases ≡ 0
@@ -165,9 +165,9 @@ module _ {rank : Ranking} {s : Session} (sound : Sound rank s) {at i rest : ℕ}
       releases =
           everywhere (λ (j : ℕ) (x : Task). j < s .n → x .releases ≤ x .terms .transactions) (λ l. fine .releases)
           (λ j d l. rw (alike-releases (taskAt s j) (taskAt s′ j) (other j d), alike-terms (taskAt s j) (taskAt s′ j) (other j d)) (sound .releases j l));
-      retries =
-          everywhere (λ (j : ℕ) (x : Task). j < s .n → retriesOf (x .state) ≤ s .accepted + 1) (λ l. fine .retries)
-          (λ j d l. omega (arith, alike-retries (taskAt s j) (taskAt s′ j) (other j d), sound .retries j l));
+      clashes =
+          everywhere (λ (j : ℕ) (x : Task). j < s .n → waitOf (x .state) .clashes ≤ s .accepted + 1) (λ l. fine .clashes)
+          (λ j d l. omega (arith, alike-clashes (taskAt s j) (taskAt s′ j) (other j d), sound .clashes j l));
       arrivals = λ j a.
           everywhere (λ (j : ℕ) (x : Task). j < s .n → x .arrival ≡ At a → a ≤ at) (λ l. fine .arrivals a)
           (λ j d l e. le-trans (sound .arrivals j a l (sym (alike-arrival (taskAt s j) (taskAt s′ j) (other j d)) ∙ e)) (timely .tick)) j;

@@ -1,4 +1,4 @@
--- What a scan lists is what it does: a task is named exactly if it waited before and executes now, and it is listed with the retry count that it had.
+-- What a scan lists is what it does: a task is named exactly if it waited before and executes now, and it is listed with the counts that it had.
 use Prim.Native.Nat.{ℕ, _+_, _≤_, _<_}
 use mathlib.Core.Path.{_≡_, refl, sym, ap, subst, _∙_}
 use mathlib.Core.Logic.{_⊎_, inl, inr, _≢_}
@@ -13,16 +13,17 @@ use lib.Seq.{take-suc-set, getD-set-same, getD-set-other}
 use borrow.Author.Tests.{eq-eqb, eqb-true, eqb-false}
 use Rattle.objects.specs.Below.{count}
 use Rattle.objects.proofs.Laws.Below.{below-suc, or-right}
+use Rattle.rules.specs.declared.State.{State}
 use Rattle.rules.specs.declared.State.the-variants.{Executing}
 use Rattle.rules.specs.declared.Task.{Task}
 use Rattle.rules.specs.declared.Session.{Session}
 use Rattle.rules.specs.declared.Admission.{Admission}
 use Rattle.rules.specs.declared.Admissions.{Admissions}
 use Rattle.rules.specs.Ranking.{Ranking}
-use Rattle.rules.specs.Tasks.{isWaiting, retriesOf, taskAt, stateAt, waiting, inState}
-use Rattle.rules.specs.Scan.{Scanned, none, listed, admit, scan}
+use Rattle.rules.specs.Tasks.{isWaiting, taskAt, stateAt, waiting, inState}
+use Rattle.rules.specs.Scan.{Scanned, noAdmission, none, admission, listed, admit, scan}
 use Rattle.rules.specs.Lines.{admissions}
-use Rattle.rules.specs.History.{tasksOf, names, noAdmission}
+use Rattle.rules.specs.History.{tasksOf, names}
 use Rattle.rules.proofs.Laws.Kept.{Kept}
 use Rattle.rules.proofs.Laws.Tasks.{waiting-inside, task-replaced, task-other}
 use Rattle.rules.proofs.Laws.Keeping.{kept-refl, kept-waiting, admitted}
@@ -53,14 +54,11 @@ names-more (x ∷ xs) j i = ap (λ (b : Bool). eqb x i || b) (names-more xs j i)
 abbrev namedIn : Admissions → ℕ → Bool
 namedIn a i = names (tasksOf (admissions a)) i
 
-named-more : (a : Admissions) (j retries i : ℕ) → a .count < length (a .list) → namedIn (listed a j retries) i ≡ (namedIn a i || eqb j i)
-named-more a j retries i l =
+named-more : (a : Admissions) (new : Admission) (i : ℕ) → a .count < length (a .list) → namedIn (listed a new) i ≡ (namedIn a i || eqb (new .task) i)
+named-more a new i l =
     ap (λ (xs : List Admission). names (tasksOf xs) i)
     (ap (λ (k : ℕ). take k (set (a .list) (a .count) new)) (add-one (a .count)) ∙ take-suc-set (a .list) (a .count) new l)
-    ∙ ap (λ (xs : List ℕ). names xs i) (tasks-more (take (a .count) (a .list)) new) ∙ names-more (tasksOf (admissions a)) j i
-  where
-    new : Admission
-    new = record { task = j; retries = retries }
+    ∙ ap (λ (xs : List ℕ). names xs i) (tasks-more (take (a .count) (a .list)) new) ∙ names-more (tasksOf (admissions a)) (new .task) i
 
 -- ---- what is listed
 
@@ -70,9 +68,9 @@ Each s s′ named i =
     ((taskAt s′ i ≡ taskAt s i) × (named ≡ false))
     ⊎ ((waiting s i ≡ true) × (taskAt s′ i ≡ inState (taskAt s i) Executing) × (named ≡ true))
 
--- an admission is of a task that waited, with its retry count
+-- an admission is of a task that waited, with its counts
 abbrev pub Entry : Session → Admission → Type 0
-Entry s a = (a .task < s .n) × (waiting s (a .task) ≡ true) × (a .retries ≡ retriesOf (stateAt s (a .task)))
+Entry s a = (a .task < s .n) × (waiting s (a .task) ≡ true) × (a ≡ admission (a .task) (stateAt s (a .task)))
 
 -- the session s becomes s′, and the list says how
 pub record Settled (s : Session) (a : Admissions) (s′ : Session) : Type 0 where
@@ -105,7 +103,7 @@ admit-listing rank s few x i p l w a = record {
     counted-now = admit-counted rank s x i (p .counted) l w a
 
     new : Admission
-    new = record { task = i; retries = retriesOf (stateAt now i) }
+    new = admission i (stateAt now i)
 
     fits : x .admitted .count < length (x .admitted .list)
     fits =
@@ -131,12 +129,12 @@ admit-listing rank s few x i p l w a = record {
         (inr (
           waited,
           task-replaced now i (inState (taskAt now i) Executing) (waiting-inside now i w) ∙ ap (λ (t : Task). inState t Executing) was,
-          named-more (x .admitted) i (retriesOf (stateAt now i)) i fits ∙ or-right (namedIn (x .admitted) i) (eqb i i) (eq-eqb i i refl),
+          named-more (x .admitted) new i fits ∙ or-right (namedIn (x .admitted) i) (eqb i i) (eq-eqb i i refl),
         ))
     go j false e before =
         let other : j ≢ i = λ q. eqb-false i j e (sym q) in
         let named : namedIn (admit x i .admitted) j ≡ namedIn (x .admitted) j =
-        named-more (x .admitted) i (retriesOf (stateAt now i)) j fits ∙ ap (λ (b : Bool). namedIn (x .admitted) j || b) e
+        named-more (x .admitted) new j fits ∙ ap (λ (b : Bool). namedIn (x .admitted) j || b) e
         ∙ or-nothing (namedIn (x .admitted) j)
         in
         let stays : taskAt (admitted now i) j ≡ taskAt now j = task-other now i j (inState (taskAt now i) Executing) other in
@@ -149,7 +147,7 @@ admit-listing rank s few x i p l w a = record {
             → Entry s (getD (set (x .admitted .list) (x .admitted .count) new) k noAdmission)
         pick (inl e) =
             rw (e, getD-set-same (x .admitted .list) (x .admitted .count) new noAdmission fits)
-            (lt-of-lt-of-le l (le-of-eq (p .counted .kept .n)), waited, ap (λ (t : Task). retriesOf (t .state)) was)
+            (lt-of-lt-of-le l (le-of-eq (p .counted .kept .n)), waited, ap (λ (t : Task). admission i (t .state)) was)
         pick (inr m) =
             rw (getD-set-other (x .admitted .list) (x .admitted .count) k new noAdmission (ne-of-lt m)) (p .settled .entries k m)
 

@@ -18,7 +18,7 @@ use Rattle.rules.specs.Answers.{number}
 use Rattle.rules.specs.Ranking.{Ranking}
 use Rattle.rules.specs.Tasks.{taskAt, setsOf, withTask, stamped}
 use Rattle.rules.specs.Contest.{blocked, lowestContested, contestedCount}
-use Rattle.rules.specs.Events.{arriveNumber, releaseNumber, commitNumber, finishNumber, refused, still, scanning, arrived, arrive, releasedInto, release, committed, commit, finished, finish, step}
+use Rattle.rules.specs.Events.{arriveNumber, releaseNumber, commitNumber, finishNumber, refused, still, scanning, arrived, arrive, releasedInto, begins, release, committed, commit, finished, finish, step}
 
 -- an answer that is accepted where its number is 0
 by-number : (k : ℕ) (s : Session) (accepts : Answer) (P : Answer → Type 0) → (k ≡ 0 → P accepts) → (k ≢ 0 → P (refused s k))
@@ -37,10 +37,10 @@ module _ (P : Answer → Type 0) (s : Session) (refuses : (k : ℕ) → k ≢ 0 
       (refuses (arriveNumber s tick i))
 
   module _ (rank : Ranking) where
-    pub commit-cases : (commitNumber s tick i ≡ 0 → P (scanning rank Ok (committed s tick i))) → P (commit rank s tick i)
+    pub commit-cases : (commitNumber s tick i ≡ 0 → P (scanning rank Ok (committed rank s tick i))) → P (commit rank s tick i)
     unfolding commit
     commit-cases accepts =
-        by-number (commitNumber s tick i) s (scanning rank Ok (committed s tick i)) P accepts (refuses (commitNumber s tick i))
+        by-number (commitNumber s tick i) s (scanning rank Ok (committed rank s tick i)) P accepts (refuses (commitNumber s tick i))
 
     pub finish-cases : (finishNumber rank s tick i ≡ 0 → P (scanning rank Ok (withTask (stamped s tick) i (finished (taskAt s i)))))
         → P (finish rank s tick i)
@@ -53,7 +53,7 @@ module _ (P : Answer → Type 0) (s : Session) (refuses : (k : ℕ) → k ≢ 0 
       abbrev waits : Answer
       waits =
           scanning rank (Wait (lowestContested s (setsOf reads writes)) (contestedCount s (setsOf reads writes)))
-          (releasedInto s tick i reads writes (Waiting (record { release = tick; retries = 0 })))
+          (releasedInto s tick i reads writes (begins tick))
 
       abbrev runs : Answer
       runs = still Run (releasedInto s tick i reads writes Executing)
@@ -105,5 +105,5 @@ outcome rank s e P refuses stays scans =
     (λ kind. release-cases P s refuses (e .tick) (e .task) rank (e .reads) (e .writes)
     (λ z b. scans (Wait (lowestContested s (setsOf (e .reads) (e .writes))) (contestedCount s (setsOf (e .reads) (e .writes)))) _ refl (record { m = refl; accepted = refl; tick = refl }))
     (λ z b. stays Run _ refl (record { m = refl; accepted = refl; tick = refl })))
-    (λ kind. commit-cases P s refuses (e .tick) (e .task) rank (λ z. scans Ok (committed s (e .tick) (e .task)) refl (record { m = refl; accepted = refl; tick = refl })))
+    (λ kind. commit-cases P s refuses (e .tick) (e .task) rank (λ z. scans Ok (committed rank s (e .tick) (e .task)) refl (record { m = refl; accepted = refl; tick = refl })))
     (λ kind. finish-cases P s refuses (e .tick) (e .task) rank (λ z. scans Ok (withTask (stamped s (e .tick)) (e .task) (finished (taskAt s (e .task)))) refl (record { m = refl; accepted = refl; tick = refl })))

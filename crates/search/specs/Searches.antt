@@ -1,19 +1,38 @@
 -- The questions, each a definition of rules read off the rows: of the tasks below n, by their codes, ranks and sets.
 use Prim.Native.Nat.{ℕ, _+_}
 use mathlib.Core.List.{List}
-use mathlib.Core.Bool.{Bool, not, _&&_}
-use lib.Dec.{leb, ltb}
+use mathlib.Core.Bool.{Bool, not, _&&_, _||_}
+use lib.Dec.{eqb, leb, ltb}
 use lib.ListN.{getD}
 use Rattle.objects.specs.Below.{any, count}
 use Rattle.objects.specs.Objects.{clash, clashOn}
 use Rattle.rules.specs.Scan.{foremost}
 use Rattle.search.specs.Rows.{plainIn, waitingIn, executingIn, setsIn}
 
+-- the executing tasks and those with the code always; and of those with the code above the ones that rank above task i
+abbrev pub alwaysIn : List ℕ → ℕ → ℕ → Bool
+alwaysIn codes always j = executingIn codes j || eqb (getD codes j 0) always
+
+abbrev pub aboveIn : List ℕ → List ℕ → ℕ → ℕ → ℕ → Bool
+aboveIn codes ranks i above j = eqb (getD codes j 0) above && ltb (getD ranks j 0) (getD ranks i 0)
+
+-- how many they are
+unfoldable pub usedIn : List ℕ → List ℕ → ℕ → ℕ → ℕ → ℕ → ℕ
+unfolding count
+usedIn codes ranks n i always above = count n (alwaysIn codes always) + count n (aboveIn codes ranks i above)
+
 -- 'A task has room if the number of executing tasks plus the number of plain tasks that rank above it is less than m.'
 unfoldable pub roomIn : List ℕ → List ℕ → ℕ → ℕ → ℕ → Bool
 unfolding count
 roomIn codes ranks n m i =
     ltb (count n (executingIn codes) + count n (λ j. plainIn codes j && ltb (getD ranks j 0) (getD ranks i 0))) m
+
+-- 'executing tasks plus all plain tasks plus waiting tasks ranked above this one are fewer than m'
+unfoldable pub ranIn : List ℕ → List ℕ → ℕ → ℕ → ℕ → Bool
+unfolding count
+ranIn codes ranks n m i =
+    let above = count n (λ j. waitingIn codes j && ltb (getD ranks j 0) (getD ranks i 0)) in
+    ltb (count n (executingIn codes) + count n (plainIn codes) + above) m
 
 -- the transaction of task i clashes with an executing one
 unfoldable pub blockedIn : List ℕ → List ℕ → List ℕ → ℕ → ℕ → Bool

@@ -1,7 +1,7 @@
 // What the events ask of rows of numbers: a code and a rank for each task, and beside them the rows of the sets. Each question reads the rows where they lie. A task
 // past the rows reads as 0: absent, of rank 0, with empty sets.
 //
-// Read in this order: seen (what a row holds), then clash (who clashes with whom), contest (on which objects), then ranked (room, the next in rank, who is admissible).
+// Read in this order: seen (what a row holds), then clash (who clashes with whom), contest (on which objects), then ranked (room, who ran, the next in rank, who is admissible).
 mod clash;
 mod contest;
 mod ranked;
@@ -12,6 +12,7 @@ pub use clash::clash_of;
 pub use contest::contested;
 pub use ranked::admissible;
 pub use ranked::next;
+pub use ranked::ran;
 pub use ranked::room;
 use rules::Task;
 pub use seen::rows_of;

@@ -1,5 +1,5 @@
 -- What is read off the rows of a session's codes and ranks is what the rules say of the session. The codes alone tell who executes, waits and is plain, and so
--- who is blocked; with the ranks they tell who has room, who is next and who is admissible. The rows stay right where a task is replaced and its code with it.
+-- who is blocked; with the ranks they tell who has room, who ran, who is next and who is admissible. The rows stay right where a task is replaced and its code with it.
 use Prim.Native.Nat.{ℕ, zero, suc, _≤_, _<_}
 use mathlib.Core.Path.{_≡_, refl, sym, ap, _∙_}
 use mathlib.Core.List.{List}
@@ -19,7 +19,7 @@ use Rattle.rules.specs.declared.Task.{Task}
 use Rattle.rules.specs.declared.Session.{Session}
 use Rattle.rules.specs.Ranking.{byPriority}
 use Rattle.rules.specs.Tasks.{isPlain, isWaiting, isExecuting, noTask, stateAt, plain, waiting, executing, setsAt, inState}
-use Rattle.rules.specs.Room.{plainAbove, room}
+use Rattle.rules.specs.Room.{plainAbove, room, waitingAbove, ran}
 use Rattle.rules.specs.Room as rooms
 use Rattle.rules.specs.Contest.{blocked, contestedOn}
 use Rattle.rules.specs.Scan.{foremost, next, admissible}
@@ -27,7 +27,7 @@ use Rattle.rules.proofs.Laws.Foremost.{ahead, foremost-found}
 use Rattle.rules.proofs.Laws.Alike.{at-or-other}
 use Rattle.search.specs.declared.Rows.{Rows}
 use Rattle.search.specs.Rows.{code, filled, codeAt, rankAt, rowsOf, plainIn, waitingIn, executingIn}
-use Rattle.search.specs.Searches.{roomIn, blockedIn, contestedIn, nextIn, admissibleIn}
+use Rattle.search.specs.Searches.{roomIn, ranIn, blockedIn, contestedIn, nextIn, admissibleIn}
 use Rattle.search.proofs.Laws.Past.{filled-size}
 use Rattle.search.proofs.Laws.Loops.{filled-more}
 
@@ -131,6 +131,18 @@ module _ (s : Session) (codes ranks : List ℕ) (seen : SeenTasks (s .tasks) (s 
     where
       above : (j : ℕ) → j < s .n → (plainIn codes j && ltb (getD ranks j 0) (getD ranks i 0)) ≡ plainAbove byPriority s i j
       above j h = rw (plain-seen s codes (seen .code-is) j h, seen .rank-is j h, seen .rank-is i l)
+
+  pub ran-seen : (i : ℕ) → i < s .n → ranIn codes ranks (s .n) (s .m) i ≡ ran byPriority s i
+  unfolding ranIn ran
+  ran-seen i l =
+      rw (
+        executing-counted s codes (seen .code-is),
+        count-ext (s .n) (plainIn codes) (plain s) (plain-seen s codes (seen .code-is)),
+        count-ext (s .n) (λ j. waitingIn codes j && ltb (getD ranks j 0) (getD ranks i 0)) (waitingAbove byPriority s i) above,
+      )
+    where
+      above : (j : ℕ) → j < s .n → (waitingIn codes j && ltb (getD ranks j 0) (getD ranks i 0)) ≡ waitingAbove byPriority s i j
+      above j h = rw (waiting-seen s codes (seen .code-is) j h, seen .rank-is j h, seen .rank-is i l)
 
   pub next-seen : (from : ℕ) → nextIn codes ranks (s .n) from ≡ next byPriority s from
   unfolding nextIn next

@@ -48,7 +48,8 @@ module _ (hadRun : ℕ → Bool) (s : Session) (x : Sets) where
   abbrev up : ℕ → Task
   up k = raisedTask (hadRun k) (taskAt s k)
 
-  raised-past : (k j : ℕ) → k ≤ j → getD (raised hadRun s x k) j noTask ≡ taskAt s j
+  -- a task that the commit has not come to is as it was
+  pub raised-past : (k j : ℕ) → k ≤ j → getD (raised hadRun s x k) j noTask ≡ taskAt s j
   unfolding raised
   raised-past zero j h = refl
   raised-past (suc k) j h = go (raised-past k j (omega arith)) (raises s x k)

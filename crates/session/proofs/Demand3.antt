@@ -17,8 +17,8 @@ use Rattle.rules.specs.Events.{step}
 use Rattle.rules.specs.History.{Call, heard}
 use Rattle.rules.specs.Demand3.{Run, begun, called, AdmissionsCount}
 use Rattle.rules.proofs.Ranking.{priority-strict}
-use Rattle.rules.proofs.Demand3.{fresh-starts, once-running, held-back, retries-counted, admitted-counted, bounded, running-apart, as-told}
-use Rattle.session.specs.Demand3.{Answered, arrives, releases, commits, finishes, steps, Calls, none, then, Demand3}
+use Rattle.rules.proofs.Demand3.{fresh-starts, once-running, held-back, waits-counted, admitted-counted, bounded, running-apart, as-told}
+use Rattle.session.specs.Demand3.{Answered, arrives, releases, commits, finishes, steps, Calls, none, then, Holds, Demand3}
 
 answered : (s : Session) (e : Event) (answer : Answer) → Answered s e answer → answer ≡ step byPriority s e
 unfolding step
@@ -54,15 +54,16 @@ demand3 u started p z s calls r =
     let strict = priority-strict .0 in
     let stays = priority-strict .1 in
     let begins = fresh-starts byPriority u (good .0) in
-    record {
+    subst (λ (x : Session). Holds x s calls) (sym is)
+    (record {
       running = λ s′ more further. once-running byPriority strict stays (fresh u) s calls begins whole s′ more (run s s′ more further);
       held = held-back byPriority strict stays (fresh u) s calls begins whole;
-      retries = retries-counted byPriority strict stays (fresh u) s calls begins whole;
+      counts = waits-counted byPriority strict stays (fresh u) s calls begins whole;
       admissions = λ e answer a.
-          subst (λ (x : Answer). AdmissionsCount e x calls) (sym (answered s e answer a))
+          subst (λ (x : Answer). AdmissionsCount byPriority (fresh u) e x calls) (sym (answered s e answer a))
           (admitted-counted byPriority strict stays (fresh u) s calls begins whole e);
       sum = λ i l answer q. rw q (bounded byPriority strict stays (fresh u) s calls begins whole i l);
       apart = running-apart byPriority strict stays (fresh u) s calls begins whole .0;
       few = running-apart byPriority strict stays (fresh u) s calls begins whole .1;
       told = as-told byPriority strict stays (fresh u) s calls begins whole;
-    }
+    })

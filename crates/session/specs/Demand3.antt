@@ -1,6 +1,6 @@
 -- Demand 3, of what the functions return. Start here: the record Holds is what is promised at every place of a run of calls, and Demand3 says that it holds. What is
 -- assumed of an answer is, word for word, what the function's contract ensures of it. The same over the rules alone, and over any ranking, is in rules/specs/Demand3;
--- what the calls say of a task (passed, waitLength, commitsIn, ..) is in rules/specs/History.
+-- what the calls say of a task (passed, retried, waitLength, ..) is in rules/specs/History.
 use Prim.Native.Nat.{ℕ, _≤_, _<_}
 use mathlib.Core.Path.{_≡_}
 use mathlib.Core.List.{List, [], _∷_}
@@ -20,7 +20,7 @@ use Rattle.rules.specs.Events.{arrive, release, commit, finish, step}
 use Rattle.rules.specs.Sum.{summed}
 use Rattle.rules.specs.Cases.{plainEvent, releaseOf}
 use Rattle.rules.specs.History.{Call, heard, waitLength, passed}
-use Rattle.rules.specs.Demand3.{RunsOn, Held, Counts, AdmissionsCount, Apart, Told}
+use Rattle.rules.specs.Demand3.{RunsOn, Held, WaitsCount, AdmissionsCount, Apart, Told}
 
 -- an answer to a call of one of the functions, with the event that it was asked for
 pub data Answered (s : Session) : Event → Answer → Type 0 where
@@ -37,24 +37,25 @@ pub data Calls (from : Session) : Session → List Call → Type 0 where
   then : {s : Session} {calls : List Call} → Calls from s calls → (e : Event) (answer : Answer) → Answered s e answer
       → Calls from (answer .session) (heard e answer ∷ calls)
 
-pub record Holds (s : Session) (calls : List Call) : Type 0 where
+pub record Holds (from s : Session) (calls : List Call) : Type 0 where
   -- once running, running until its own commit, with the same sets
   pub running : (s′ : Session) (more : List Call) → Calls s s′ more → RunsOn s s′ more
   -- one that waits clashes with a running one or has no processor
   pub held : Held byPriority s
-  -- its retry count is the number of clashing transactions that committed while it waited, and so is that of each admission
-  pub retries : Counts s calls
-  pub admissions : (e : Event) (answer : Answer) → Answered s e answer → AdmissionsCount e answer calls
-  -- and it is at most the sum that the function answers for the wait's length
+  -- its clash count is the number of clashing transactions that committed while it waited; its retry count is the number of those just before which it ran, and so never
+  -- more; and so are those of each admission
+  pub counts : WaitsCount byPriority from s calls
+  pub admissions : (e : Event) (answer : Answer) → Answered s e answer → AdmissionsCount byPriority from e answer calls
+  -- and the clash count is at most the sum that the function answers for the wait's length
   pub sum : (i : ℕ) → i < s .n → (answer : Summed) → answer ≡ summed s i (waitLength i calls) → (answer .number ≡ 0) × (passed i calls ≤ answer .sum)
   -- no two running transactions clash, and at most m run
   pub apart : Apart s
   pub few : count (s .n) (executing s) ≤ s .m
   -- history says what the session says
-  pub told : (i : ℕ) → i < s .n → Told s calls i
+  pub told : (i : ℕ) → i < s .n → Told from s calls i
 
 -- 'Over any run of calls from a fresh setup'
 abbrev pub Demand3 : Type 0
 Demand3 =
     (u : Setup) (started : Started) → started ≡ start u → number (started .said) ≡ 0
-    → (s : Session) (calls : List Call) → Calls (started .session) s calls → Holds s calls
+    → (s : Session) (calls : List Call) → Calls (started .session) s calls → Holds (started .session) s calls

@@ -28,6 +28,7 @@ use search::Rows;
 use search::blocked;
 use search::clash_of;
 use search::contested;
+use search::ran;
 use search::room;
 use search::rows_of;
 
@@ -166,6 +167,7 @@ fn released(
         };
         let wait = Wait {
             release: tick,
+            clashes: 0,
             retries: 0,
         };
         s.tasks[i] = with_release(t, State::Waiting(wait));
@@ -208,7 +210,7 @@ pub fn release(s: Session, tick: u32, task: u8, reads: Groups, writes: Groups) -
     released(s, codes, tick, i, reads, writes)
 }
 
-// An executing transaction ends: those that waited and clash with it have been passed over once more, and a scan follows.
+// An executing transaction ends: those that waited and clash with it have been passed over once more, some of them while they ran, and a scan follows.
 pub fn commit(mut s: Session, tick: u32, task: u8) -> Answer
     ensures { λ answer. ⌜ answer ≡ commit byPriority s tick task ⌝ }
 {
@@ -222,6 +224,8 @@ pub fn commit(mut s: Session, tick: u32, task: u8) -> Answer
     let State::Executing = state else {
         return refuse(s, 4);
     };
+    let before = s.tasks;
+    let rows = rows_of(before, s.n);
     let end = s.n as usize;
     s.tick = tick;
     s.accepted = s.accepted + 1;
@@ -230,7 +234,8 @@ pub fn commit(mut s: Session, tick: u32, task: u8) -> Answer
         let waits = other.state;
         if is_waiting(waits) {
             if clash_of(&s.reads, &s.writes, i, j) {
-                s.tasks[j] = raised_task(other);
+                let had_run = ran(&rows.codes, &rows.ranks, s.n, s.m, j);
+                s.tasks[j] = raised_task(other, had_run);
             }
         }
     }

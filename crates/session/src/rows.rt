@@ -1,8 +1,9 @@
 // The small pieces that the events are made of.
 ghost use mathlib.Core.Path.{_≡_};
-ghost use Prim.Native.Nat.{_<_, min, _+_};
-ghost use Rattle.rules.specs.Tasks.{isWaiting, retriesOf, inState, withGroups};
-ghost use Rattle.rules.specs.Events.{raisedTask, released};
+ghost use mathlib.Core.Bool.{cond};
+ghost use Prim.Native.Nat.{_<_};
+ghost use Rattle.rules.specs.Tasks.{isWaiting, waitOf, inState, withGroups};
+ghost use Rattle.rules.specs.Events.{oneMore, raisedTask, released};
 ghost use Rattle.rules.specs.Scan.{none};
 use rules::Admission;
 use rules::Admissions;
@@ -22,16 +23,18 @@ pub(crate) fn is_waiting(state: State) -> bool
     }
 }
 
-// The retry count of a waiting task, and 0 of any other.
-pub(crate) fn retries_of(state: State) -> u32
-    ensures { λ retries. ⌜ retries ≡ retriesOf state ⌝ }
+// The wait of a waiting task, and one of which every number is 0 of any other.
+pub(crate) fn wait_of(state: State) -> Wait
+    ensures { λ wait. ⌜ wait ≡ waitOf state ⌝ }
 {
-    match state {
-        State::Absent => 0,
-        State::Plain => 0,
-        State::Waiting(wait) => wait.retries,
-        State::Executing => 0,
-    }
+    let State::Waiting(wait) = state else {
+        return Wait {
+            release: 0,
+            clashes: 0,
+            retries: 0,
+        };
+    };
+    wait
 }
 
 // The task in another state.
@@ -64,19 +67,26 @@ pub(crate) fn with_release(t: Task, state: State) -> Task
 }
 
 // One more, and no more than the largest that is held.
-fn one_more(retries: u32) -> u32
-    ensures { λ more. ⌜ more ≡ min (retries + 1) 4294967295 ⌝ }
+fn one_more(count: u32) -> u32
+    ensures { λ more. ⌜ more ≡ oneMore count ⌝ }
 {
-    if retries < 4294967295 {
-        retries + 1
+    if count < 4294967295 {
+        count + 1
     } else {
         4294967295
     }
 }
 
-// The task with its retry count raised by one, where it waits.
-pub(crate) fn raised_task(t: Task) -> Task
-    ensures { λ task. ⌜ task ≡ raisedTask t ⌝ }
+// One more where it is so, and else the same.
+fn one_more_if(count: u32, so: bool) -> u32
+    ensures { λ more. ⌜ more ≡ cond so (oneMore count) count ⌝ }
+{
+    if so { one_more(count) } else { count }
+}
+
+// The task with its clash count raised by one, where it waits, and its retry count too, where it ran.
+pub(crate) fn raised_task(t: Task, ran: bool) -> Task
+    ensures { λ task. ⌜ task ≡ raisedTask ran t ⌝ }
 {
     let state = t.state;
     let State::Waiting(wait) = state else {
@@ -84,7 +94,8 @@ pub(crate) fn raised_task(t: Task) -> Task
     };
     let wait = Wait {
         release: wait.release,
-        retries: one_more(wait.retries),
+        clashes: one_more(wait.clashes),
+        retries: one_more_if(wait.retries, ran),
     };
     in_state(t, State::Waiting(wait))
 }
@@ -97,6 +108,7 @@ pub(crate) fn no_admissions() -> Admissions
         count: 0,
         list: [Admission {
             task: 0,
+            clashes: 0,
             retries: 0,
         }; 16],
     }

@@ -4,7 +4,7 @@ ghost use Prim.Native.Nat.{_≤_};
 ghost use Rattle.session.specs.Events.{scanIn};
 use crate::rows::in_state;
 use crate::rows::no_admissions;
-use crate::rows::retries_of;
+use crate::rows::wait_of;
 use rules::Admission;
 use rules::Admissions;
 use rules::State;
@@ -45,10 +45,12 @@ pub(crate) fn scan_of<'a>(
         if admissible(&codes, &ranks, reads, writes, n, m, i) {
             let t = tasks[i];
             let state = t.state;
+            let wait = wait_of(state);
             let at = admitted.count as usize;
             admitted.list[at] = Admission {
                 task: i as u8,
-                retries: retries_of(state),
+                clashes: wait.clashes,
+                retries: wait.retries,
             };
             admitted.count = admitted.count + 1;
             codes[i] = 3;

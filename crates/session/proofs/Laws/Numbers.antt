@@ -218,19 +218,19 @@ module _ (s : Session) (tick i first : ℕ) (e : first ≡ firstNumber s tick i)
     pub commit-first : first ≢ 0 → commit rank s tick i ≡ refused s first
     unfolding commit commitNumber
     commit-first h =
-        answer-refused (commitNumber s tick i) s (scanning rank Ok (committed s tick i)) first
+        answer-refused (commitNumber s tick i) s (scanning rank Ok (committed rank s tick i)) first
         (trying-given s tick i (commitRest s i) first e h) h
 
     pub commit-refused : (k : ℕ) → first ≡ 0 → commitRest s i ≡ k → k ≢ 0 → commit rank s tick i ≡ refused s k
     unfolding commit commitNumber
     commit-refused k z r =
-        answer-refused (commitNumber s tick i) s (scanning rank Ok (committed s tick i)) k
+        answer-refused (commitNumber s tick i) s (scanning rank Ok (committed rank s tick i)) k
         (trying-rest s tick i (commitRest s i) first e z ∙ r)
 
-    pub commit-accepted : first ≡ 0 → commitRest s i ≡ 0 → commit rank s tick i ≡ scanning rank Ok (committed s tick i)
+    pub commit-accepted : first ≡ 0 → commitRest s i ≡ 0 → commit rank s tick i ≡ scanning rank Ok (committed rank s tick i)
     unfolding commit commitNumber
     commit-accepted z r =
-        answer-accepted (commitNumber s tick i) s (scanning rank Ok (committed s tick i))
+        answer-accepted (commitNumber s tick i) s (scanning rank Ok (committed rank s tick i))
         (trying-rest s tick i (commitRest s i) first e z ∙ r)
 
 -- Of a finish and a release, by the number that they are tried for alike.

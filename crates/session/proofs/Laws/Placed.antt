@@ -14,14 +14,14 @@ use Rattle.objects.proofs.Laws.Below.{any-ext, any-at, any-witness, and-left, a
 use Rattle.objects.proofs.Laws.Bits.{word-ext, bit-word}
 use Rattle.objects.proofs.Laws.Sets.{has-group, lowest-some}
 use Rattle.rules.specs.declared.State.{State}
-use Rattle.rules.specs.declared.State.the-variants.{Waiting, Executing}
+use Rattle.rules.specs.declared.State.the-variants.{Executing}
 use Rattle.rules.specs.declared.Session.{Session}
 use Rattle.rules.specs.declared.Said.the-variants.{Run, Wait}
 use Rattle.rules.specs.declared.Answer.{Answer}
 use Rattle.rules.specs.Ranking.{byPriority}
 use Rattle.rules.specs.Tasks.{isExecuting, taskAt, stateAt, executing, setsAt, setsOf, withGroups}
 use Rattle.rules.specs.Contest.{blocked, contestedOn, lowestContested, contestedCount}
-use Rattle.rules.specs.Events.{still, scanning, released, releasedInto, releaseAccepted}
+use Rattle.rules.specs.Events.{still, scanning, released, releasedInto, begins, releaseAccepted}
 use Rattle.rules.proofs.Laws.Rows.{groups-same, groups-other, Agree, clash-is, on-agree, clash-agree}
 use Rattle.search.specs.Rows.{executingIn, setsIn}
 use Rattle.search.specs.Searches.{blockedIn, contestedIn}
@@ -68,9 +68,6 @@ blocked-contested s x e =
 
 -- ---- the answer to a release
 
-abbrev waited : ℕ → State
-waited tick = Waiting (record { release = tick; retries = 0 })
-
 -- the answer to a release that waits, with the session after it
 abbrev waitingAnswer : ℕ → ℕ → Session → Answer
 waitingAnswer low many s = scanning byPriority (Wait low many) s
@@ -80,7 +77,7 @@ accepted-is : (s : Session) (tick i : ℕ) (reads writes : List ℕ) (b : Bool) 
     → releaseAccepted byPriority s tick i reads writes
     ≡ cond b
     (waitingAnswer (least 256 (contestedOn s (setsOf reads writes))) (count 256 (contestedOn s (setsOf reads writes)))
-    (releasedInto s tick i reads writes (waited tick)))
+    (releasedInto s tick i reads writes (begins tick)))
     (still Run (releasedInto s tick i reads writes Executing))
 unfolding releaseAccepted lowestContested contestedCount
 accepted-is s tick i reads writes b e =
@@ -88,7 +85,7 @@ accepted-is s tick i reads writes b e =
     (λ (x : Bool).
     cond x
     (waitingAnswer (least 256 (contestedOn s (setsOf reads writes))) (count 256 (contestedOn s (setsOf reads writes)))
-    (releasedInto s tick i reads writes (waited tick)))
+    (releasedInto s tick i reads writes (begins tick)))
     (still Run (releasedInto s tick i reads writes Executing)))
     e
 
@@ -172,10 +169,10 @@ module _
     pub released-waits : (tick : ℕ) (words : List ℕ) (low many : ℕ) → blockedIn codes rs ws (s .n) i ≡ true
         → ((g : ℕ) → g < 4 → getD words g 0 ≡ word 64 (λ b. contestedIn codes rs ws (s .n) i (g * 64 + b)))
         → low ≡ lowestObject (groupsAt words 0) → many ≡ howMany (groupsAt words 0)
-        → waitingAnswer low many (withRows s tick i (waited tick) rs ws) ≡ releaseAccepted byPriority s tick i reads writes
+        → waitingAnswer low many (withRows s tick i (begins tick) rs ws) ≡ releaseAccepted byPriority s tick i reads writes
     released-waits tick words low many e each l m =
-        ap₂ (λ (x y : ℕ). waitingAnswer x y (withRows s tick i (waited tick) rs ws)) low-is many-is
-        ∙ ap₂ (λ (x y : List ℕ). waitingAnswer (least 256 f) (count 256 f) (withRows s tick i (waited tick) x y)) put-reads put-writes
+        ap₂ (λ (x y : ℕ). waitingAnswer x y (withRows s tick i (begins tick) rs ws)) low-is many-is
+        ∙ ap₂ (λ (x y : List ℕ). waitingAnswer (least 256 f) (count 256 f) (withRows s tick i (begins tick) x y)) put-reads put-writes
         ∙ sym (accepted-is s tick i reads writes true waits)
       where
         f : ℕ → Bool

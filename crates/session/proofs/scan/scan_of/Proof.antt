@@ -97,17 +97,17 @@ mul-t c = omega (arith, small (looked-at (c .before)))
 array-copy-out-t : tie.Need-array-copy-out-t Inv-loop μ-loop
 array-copy-out-t c = small (looked-at (c .before))
 
+wait-of-requires : tie.Need-wait-of-requires Inv-loop μ-loop
+wait-of-requires c κs = tt
+
 cast-at : tie.Need-cast-at Inv-loop μ-loop
-cast-at c = omega (arith, place (c .before))
+cast-at c = omega (arith, place (c .before .before))
 
 cast-admitted : tie.Need-cast-admitted Inv-loop μ-loop
-cast-admitted c = omega (arith, small (looked-at (c .before .before)))
+cast-admitted c = omega (arith, small (looked-at (c .before .before .before)))
 
-retries-of-requires : tie.Need-retries-of-requires Inv-loop μ-loop
-retries-of-requires c κs = tt
-
-mul-t29 : tie.Need-mul-t29 Inv-loop μ-loop
-mul-t29 c = omega (arith, place (c .before .before))
+mul-t30 : tie.Need-mul-t30 Inv-loop μ-loop
+mul-t30 c = omega (arith, place (c .before .before))
 
 element-set-from-admitted : tie.Need-element-set-from-admitted Inv-loop μ-loop
 element-set-from-admitted c = place (c .before .before)
@@ -170,10 +170,10 @@ scan-of-spec =
     admissible-requires
     mul-t
     array-copy-out-t
+    wait-of-requires
     cast-at
     cast-admitted
-    retries-of-requires
-    mul-t29
+    mul-t30
     element-set-from-admitted
     add-admitted
     array-write-codes

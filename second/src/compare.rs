@@ -147,9 +147,7 @@ impl<W: Write> Comparison<'_, W> {
         let bad = replay(log, &mut lines, |session, reply| {
             counts.book_event(session, reply)
         })?;
-        if let Some(refusal) = bad {
-            self.counts.book_bad_log(refusal);
-        }
+        self.counts.book_end(bad);
         match said_by(self.program, &[], log, feeding, Stdio::inherit())? {
             None => self
                 .score
@@ -189,10 +187,7 @@ impl<W: Write> Comparison<'_, W> {
     fn sums(mut self) -> io::Result<bool> {
         self.counts.print(&mut self.score.report)?;
         self.score.book_classes(&self.counts.must_come_up())?;
-        for (what, count) in self.counts.must_not_come_up() {
-            let what = format!("{what}: came up {count} times");
-            self.score.book(count == 0, &what)?;
-        }
+        self.score.book_nevers(&self.counts.must_not_come_up())?;
         writeln!(
             self.score.report,
             "{} logs compared, {} round trips",

@@ -1,4 +1,4 @@
-//! Counts by a key, and the classes of things that must come up in a comparison.
+//! Counts by a key, and the classes of things that must come up in a comparison, or never do.
 
 use std::collections::BTreeMap;
 use std::io::{self, Write};
@@ -7,6 +7,13 @@ pub type Counts<K> = BTreeMap<K, u64>;
 
 pub fn add<K: Ord>(counts: &mut Counts<K>, key: K) {
     *counts.entry(key).or_default() += 1;
+}
+
+/// Adds the counts of a part.
+pub fn add_all<K: Ord + Copy>(counts: &mut Counts<K>, part: &Counts<K>) {
+    for (key, count) in part {
+        *counts.entry(*key).or_default() += count;
+    }
 }
 
 pub fn count<K: Ord>(counts: &Counts<K>, key: K) -> u64 {
@@ -49,12 +56,33 @@ impl Class {
     }
 }
 
-/// A line for each class.
-pub fn print_classes(report: &mut impl Write, classes: &[Class]) -> io::Result<()> {
-    let width = classes.iter().map(|class| class.what.len()).max();
-    let width = width.unwrap_or(0).max(30);
+/// What the rules never let come up, and how often it did.
+pub struct Never {
+    pub what: String,
+    pub count: u64,
+}
+
+impl Never {
+    pub fn new(what: impl Into<String>, count: u64) -> Never {
+        let what = what.into();
+        Never { what, count }
+    }
+}
+
+/// A line for each class, and for each thing that the rules never let come up.
+pub fn print_classes(
+    report: &mut impl Write,
+    classes: &[Class],
+    nevers: &[Never],
+) -> io::Result<()> {
+    let words = classes.iter().map(|class| &class.what);
+    let words = words.chain(nevers.iter().map(|never| &never.what));
+    let width = words.map(String::len).max().unwrap_or(0);
     for Class { what, count, .. } in classes {
         writeln!(report, "  {what:<width$} {count:>9}")?;
+    }
+    for Never { what, count } in nevers {
+        writeln!(report, "  {what:<width$} {count:>9} (the rules allow none)")?;
     }
     Ok(())
 }

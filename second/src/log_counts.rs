@@ -2,7 +2,8 @@
 
 use std::io::{self, Write};
 
-use crate::counts::{above, add, count, least, print_classes, Class, Counts};
+use crate::both_numbers::BothNumbers;
+use crate::counts::{above, add, count, least, print_classes, Class, Counts, Never};
 use crate::lines::Reply;
 use crate::rules::{Answer, Refusal, Session, Setup};
 
@@ -22,8 +23,13 @@ pub struct LogCounts {
     answers: Counts<&'static str>,
     /// Accepted events by how many tasks they admitted.
     admissions: Counts<usize>,
-    /// Admissions by retry count.
-    retries: Counts<u32>,
+    /// Admissions by clash count.
+    clashes: Counts<u32>,
+    /// Both numbers of the admissions in the present log; of those in all logs before it; and
+    /// what came up there, once for each log.
+    in_log: BothNumbers,
+    in_admissions: BothNumbers,
+    in_logs: BothNumbers,
     /// Events that admitted more than m tasks.
     above_m: u64,
     /// Accepted events after which some task waits for a processor only.
@@ -37,10 +43,6 @@ impl LogCounts {
     pub fn book_setup(&mut self, setup: &Setup) {
         add(&mut self.processors, usize::from(setup.processors));
         add(&mut self.tasks, setup.tasks.len());
-    }
-
-    pub fn book_bad_log(&mut self, refusal: Refusal) {
-        add(&mut self.refusals, refusal.number());
     }
 
     /// Books the reply to one event, with the session after it.
@@ -60,13 +62,25 @@ impl LogCounts {
                 add(&mut self.answers, word);
                 add(&mut self.admissions, outcome.admitted.len());
                 for admission in &outcome.admitted {
-                    add(&mut self.retries, admission.retries);
+                    let (clashes, retries) = (admission.clashes, admission.retries);
+                    add(&mut self.clashes, clashes);
+                    self.in_log.book(clashes.into(), retries.into());
                 }
                 let most = usize::from(session.setup().processors);
                 self.above_m += u64::from(outcome.admitted.len() > most);
                 self.room_only += u64::from(session.waits_for_room_only());
             }
         }
+    }
+
+    /// Books the end of a log, and the refusal if it reads badly.
+    pub fn book_end(&mut self, bad: Option<Refusal>) {
+        if let Some(refusal) = bad {
+            add(&mut self.refusals, refusal.number());
+        }
+        let in_log = std::mem::take(&mut self.in_log);
+        self.in_admissions.book_all(&in_log);
+        self.in_logs.book_once(&in_log);
     }
 
     /// What must have come up.
@@ -84,33 +98,38 @@ impl LogCounts {
             Class::once("one task admitted", count(&self.admissions, 1)),
             Class::once("several tasks admitted", above(&self.admissions, 1)),
             Class::once("16 tasks admitted", count(&self.admissions, 16)),
-            Class::once("admitted with 1 retry", count(&self.retries, 1)),
-            Class::once("admitted with more retries", above(&self.retries, 1)),
+            Class::once("admissions with 1 clash", count(&self.clashes, 1)),
+            Class::once("admissions with more clashes", above(&self.clashes, 1)),
             Class::once("a wait for a processor only", self.room_only),
             Class::new("logs for each m from 1 to 16", processors, 3),
             Class::new("logs for each n from 1 to 64", tasks, 3),
         ];
-        refusals.into_iter().chain(answers).chain(others).collect()
+        let both_numbers = [
+            self.in_admissions.must_come_up("admissions"),
+            self.in_logs.must_come_up("logs"),
+        ];
+        let replies = refusals.into_iter().chain(answers);
+        replies
+            .chain(others)
+            .chain(both_numbers.into_iter().flatten())
+            .collect()
     }
 
-    /// What the rules never let come up, each with its count.
+    /// What the rules never let come up.
     ///
     /// A waiting transaction clashed with an executing one when it was released, and is admitted
-    /// only after that one's commit, which raises its retry count; so none is admitted with 0.
-    pub fn must_not_come_up(&self) -> [(&'static str, u64); 2] {
-        let without_retry = count(&self.retries, 0);
+    /// only after that one's commit, which raises its clash count; so none is admitted with 0.
+    pub fn must_not_come_up(&self) -> [Never; 3] {
         [
-            ("admitted with 0 retries", without_retry),
-            ("more than m admitted", self.above_m),
+            Never::new("admissions with 0 clashes", count(&self.clashes, 0)),
+            self.in_admissions.must_not_come_up("admissions"),
+            Never::new("more than m admitted", self.above_m),
         ]
     }
 
     pub fn print(&self, report: &mut impl Write) -> io::Result<()> {
         writeln!(report, "What came up, in {} events:", self.events)?;
-        print_classes(report, &self.must_come_up())?;
-        for (what, count) in self.must_not_come_up() {
-            writeln!(report, "  {what:<30} {count:>9} (the rules allow none)")?;
-        }
+        print_classes(report, &self.must_come_up(), &self.must_not_come_up())?;
         writeln!(
             report,
             "  Refusal 25 came up by an end count that differs. Its other case, an"

@@ -1,6 +1,6 @@
-//! An independent reading of document 01, its rules, its log and its replay lines, and of request
-//! CR 1 in document 02, the report; written from these documents alone, to be compared with other
-//! programs that follow them.
+//! An independent reading of document 01, its rules, its log and its replay lines, and of requests
+//! CR 1, the report, and CR 2, retries that never ran, in document 02; written from these documents
+//! alone, to be compared with other programs that follow them.
 //!
 //! Subcommands:
 //!
@@ -17,11 +17,12 @@
 //! To read it in order: `rules` (sessions and events), `log` (records), `lines` (the replay),
 //! `text`; `tally` (what an event books) and `report` (the sheet); then what both comparisons
 //! need: `random`, `damage` and `seasons` (logs to try), `other` (the other program), `counts`,
-//! `score` and `folder`; then the replay's: `vectors` (sessions written down), `log_counts`,
-//! `compare` and `bench`; then the report's: `sheet_vectors` (lists written down), `sheet_counts`
-//! and `sheets`.
+//! `both_numbers`, `score` and `folder`; then the replay's: `vectors` (sessions written down),
+//! `log_counts`, `compare` and `bench`; then the report's: `sheet_vectors` (lists written down),
+//! `sheet_counts` and `sheets`.
 
 mod bench;
+mod both_numbers;
 mod compare;
 mod counts;
 mod damage;

@@ -1,6 +1,7 @@
 //! The rules of one session: tasks, transactions, events, refusals and the scan.
 //!
-//! Every name here is a word of document 01, and every step follows one of its sentences.
+//! Every name here is a word of document 01 or of request CR 2 in document 02, and every step
+//! follows one of their sentences.
 
 use std::cmp::Reverse;
 use std::collections::{BTreeMap, BTreeSet};
@@ -94,7 +95,7 @@ pub struct Transaction {
 
 impl Transaction {
     /// Two transactions clash if some object is in both and at least one of the two writes it.
-    pub fn clashes(&self, other: &Transaction) -> bool {
+    pub fn clashes_with(&self, other: &Transaction) -> bool {
         !(self.writes.is_disjoint(&other.writes)
             && self.writes.is_disjoint(&other.reads)
             && self.reads.is_disjoint(&other.writes))
@@ -149,10 +150,11 @@ pub enum Answer {
     },
 }
 
-/// A task that a scan admitted, with the retry count it had by then.
+/// A task that a scan admitted, with the clash count and the retry count it had by then.
 #[derive(Clone, Copy, Debug, PartialEq, Eq)]
 pub struct Admission {
     pub task: u8,
+    pub clashes: u32,
     pub retries: u32,
 }
 
@@ -189,11 +191,12 @@ struct Rank {
     task: u8,
 }
 
-/// A task that waits, with its transaction and its retry count.
+/// A task that waits, with its transaction, its clash count and its retry count.
 #[derive(Clone, Debug)]
 struct Waiting {
     rank: Rank,
     transaction: Transaction,
+    clashes: u32,
     retries: u32,
 }
 
@@ -363,17 +366,31 @@ impl Session {
     }
 
     fn commit(&mut self, task: u8) -> Outcome {
-        if let Some(committed) = self.executing.remove(&task) {
-            for waiting in &mut self.waiting {
-                if waiting.transaction.clashes(&committed) {
-                    waiting.retries += 1;
-                }
-            }
-        }
+        self.count_clashes(task);
+        self.executing.remove(&task);
         self.plain.insert(self.rank(task));
         Outcome {
             answer: Answer::Ok,
             admitted: self.scan(),
+        }
+    }
+
+    /// Just before a commit, with the committing task still executing: every waiting transaction
+    /// that clashes with the committing one has one clash more. It has one retry more only if
+    /// executing tasks plus all plain tasks plus waiting tasks ranked above it are fewer than m.
+    /// The waiting ones are sorted, so that its place among them is how many rank above it.
+    fn count_clashes(&mut self, committing: u8) {
+        let processors = usize::from(self.setup.processors);
+        let executing = self.executing.len();
+        let plain = self.plain.len();
+        let committing = &self.executing[&committing];
+        for (waiting_above, waiting) in self.waiting.iter_mut().enumerate() {
+            if waiting.transaction.clashes_with(committing) {
+                waiting.clashes += 1;
+                if executing + plain + waiting_above < processors {
+                    waiting.retries += 1;
+                }
+            }
         }
     }
 
@@ -395,6 +412,7 @@ impl Session {
             Waiting {
                 rank,
                 transaction,
+                clashes: 0,
                 retries: 0,
             },
         );
@@ -410,6 +428,7 @@ impl Session {
                 let task = waiting.rank.task;
                 admitted.push(Admission {
                     task,
+                    clashes: waiting.clashes,
                     retries: waiting.retries,
                 });
                 self.executing.insert(task, waiting.transaction);
@@ -430,7 +449,7 @@ impl Session {
     fn clashes_with_executing(&self, transaction: &Transaction) -> bool {
         self.executing
             .values()
-            .any(|executing| transaction.clashes(executing))
+            .any(|executing| transaction.clashes_with(executing))
     }
 
     /// The objects on which a transaction clashes with at least one executing transaction.

@@ -2,7 +2,7 @@
 
 use std::io::{self, Write};
 
-use crate::counts::Class;
+use crate::counts::{Class, Never};
 
 pub struct Score<W> {
     pub report: W,
@@ -35,6 +35,14 @@ impl<W: Write> Score<W> {
         for class in classes {
             let what = format!("{}: came up {} times", class.what, class.count);
             self.book(class.count >= class.least, &what)?;
+        }
+        Ok(())
+    }
+
+    /// Books that nothing came up which the rules never let come up.
+    pub fn book_nevers(&mut self, nevers: &[Never]) -> io::Result<()> {
+        for Never { what, count } in nevers {
+            self.book(*count == 0, &format!("{what}: came up {count} times"))?;
         }
         Ok(())
     }

@@ -4,7 +4,8 @@ use std::collections::BTreeSet;
 use std::ffi::OsString;
 use std::io::{self, Write};
 
-use crate::counts::{add, count, least, print_classes, Class, Counts};
+use crate::both_numbers::BothNumbers;
+use crate::counts::{add, add_all, count, least, print_classes, Class, Counts, Never};
 use crate::report::{Onlooker, Report, Trouble};
 use crate::rules::{Action, Event, Refusal, Setup};
 use crate::tally::{Booking, Commit, Tally, Wait, LAST_WAITS, MOST_TOTAL};
@@ -42,7 +43,7 @@ const ON_SHEETS: [&str; 35] = [
     "waits ended by a finish",
     "waits of 0 ticks",
     "waits of more than 2,147,483,647 ticks",
-    "waits with several retries",
+    "waits with several clashes",
     "events left out",
     "events left out that commit",
     "events left out that release",
@@ -64,6 +65,11 @@ pub struct SheetCounts {
     refused: Counts<u8>,
     /// What came up in lists that have a sheet.
     on_sheets: Counts<&'static str>,
+    /// In lists that have a sheet, both numbers of the waits booked; of the rows; and what came up
+    /// in the rows, once for each sheet.
+    in_waits: BothNumbers,
+    in_rows: BothNumbers,
+    in_sheets: BothNumbers,
     /// Lists that have a sheet, by m and by n.
     processors: Counts<usize>,
     tasks: Counts<usize>,
@@ -76,6 +82,8 @@ pub struct SheetCounts {
 struct ListCounts {
     refused: Counts<u8>,
     came_up: Counts<&'static str>,
+    /// Both numbers of the waits booked.
+    in_waits: BothNumbers,
     processors: usize,
     /// Whether an event was left out.
     left_out: bool,
@@ -124,6 +132,16 @@ impl SheetCounts {
         add(&mut self.endings, what);
     }
 
+    /// Books both numbers of each row of a sheet.
+    fn book_rows(&mut self, tally: &Tally) {
+        let mut in_sheet = BothNumbers::default();
+        for figures in tally.tasks() {
+            in_sheet.book(figures.clashes, figures.retries);
+        }
+        self.in_rows.book_all(&in_sheet);
+        self.in_sheets.book_once(&in_sheet);
+    }
+
     /// What must have come up.
     pub fn must_come_up(&self) -> Vec<Class> {
         let bad = BAD.map(|number| Class::once(format!("bad {number}"), count(&self.bad, number)));
@@ -138,9 +156,25 @@ impl SheetCounts {
             Class::once("sheets for each m from 1 to 16", processors),
             Class::once("sheets for each n from 1 to 64", tasks),
         ];
+        let both_numbers = [
+            self.in_waits.must_come_up("waits"),
+            self.in_rows.must_come_up("rows"),
+            self.in_sheets.must_come_up("sheets"),
+        ];
         let lists = endings.into_iter().chain(bad);
         let sheets = refused.into_iter().chain(on_sheets).chain(sizes);
-        lists.chain(sheets).collect()
+        lists
+            .chain(sheets)
+            .chain(both_numbers.into_iter().flatten())
+            .collect()
+    }
+
+    /// What the rules never let come up.
+    pub fn must_not_come_up(&self) -> [Never; 2] {
+        [
+            self.in_waits.must_not_come_up("waits"),
+            self.in_rows.must_not_come_up("rows"),
+        ]
     }
 
     pub fn print(&self, report: &mut impl Write) -> io::Result<()> {
@@ -148,7 +182,7 @@ impl SheetCounts {
             report,
             "What came up; below `bad`, in lists that have a sheet:"
         )?;
-        print_classes(report, &self.must_come_up())?;
+        print_classes(report, &self.must_come_up(), &self.must_not_come_up())?;
         writeln!(
             report,
             "  Refusal 41 came up by a task's ticks. The other totals rise by 1,000,000 in a"
@@ -201,15 +235,13 @@ impl Onlooker for SheetCounts {
         let mut list = std::mem::take(&mut self.list);
         if let Some(tally) = report.tally() {
             list.sheet(report, tally);
+            self.book_rows(tally);
             add(&mut self.processors, list.processors);
             add(&mut self.tasks, tally.tasks().len());
         }
-        for (what, count) in list.came_up {
-            *self.on_sheets.entry(what).or_default() += count;
-        }
-        for (number, count) in list.refused {
-            *self.refused.entry(number).or_default() += count;
-        }
+        add_all(&mut self.on_sheets, &list.came_up);
+        add_all(&mut self.refused, &list.refused);
+        self.in_waits.book_all(&list.in_waits);
     }
 }
 
@@ -259,9 +291,10 @@ impl ListCounts {
         if wait.ticks > MOST_TOTAL / 2 {
             self.add("waits of more than 2,147,483,647 ticks");
         }
-        if wait.retries > 1 {
-            self.add("waits with several retries");
+        if wait.clashes > 1 {
+            self.add("waits with several clashes");
         }
+        self.in_waits.book(wait.clashes, wait.retries);
         if self.opened_by_left_out.remove(&wait.task) {
             self.add("waits booked that an event left out had opened");
         }

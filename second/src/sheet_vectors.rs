@@ -2,8 +2,12 @@
 //!
 //! MAX in a comment stands for 4,294,967,295, the last tick and the most that a total may be. The
 //! waits of one task in one session never sum to more than that, so 41 takes two logs at least.
+//!
+//! A sum of three in a comment is the one that decides on a retry, just before a commit: executing
+//! tasks + plain tasks + waiting tasks ranked above.
 
 use crate::vectors::{DEFERRED_TEXT, NEW_SETS_TEXT, PAIR_TEXT, WHOLE_TEXT};
+use crate::vectors::{PLAIN_BELOW_TEXT, WAITING_ABOVE_TEXT};
 
 /// Sessions in readable text, in their order, and the sheet over them.
 pub struct WrittenList {
@@ -12,7 +16,7 @@ pub struct WrittenList {
     pub sheet: &'static str,
 }
 
-pub const LISTS: [WrittenList; 14] = [
+pub const LISTS: [WrittenList; 16] = [
     WrittenList {
         name: "the session of 01 twice",
         texts: &[WHOLE_TEXT, WHOLE_TEXT],
@@ -37,6 +41,16 @@ pub const LISTS: [WrittenList; 14] = [
         name: "no wait at all",
         texts: &[NEW_SETS_TEXT],
         sheet: NEW_SETS_SHEET,
+    },
+    WrittenList {
+        name: "a wait with more clashes than retries",
+        texts: &[PLAIN_BELOW_TEXT],
+        sheet: PLAIN_BELOW_SHEET,
+    },
+    WrittenList {
+        name: "totals of clashes and of retries",
+        texts: &[WAITING_ABOVE_TEXT, WAITING_ABOVE_TEXT],
+        sheet: WAITING_ABOVE_SHEET,
     },
     WrittenList {
         name: "eleven waits",
@@ -85,15 +99,15 @@ pub const LISTS: [WrittenList; 14] = [
     },
 ];
 
-/// In each session: 0, 2 and 1 commit once, and only 1 had waited, from 3 to 7, with 2 retries.
-/// Twice: retries 2 + 2, ticks 4 + 4. Of the waits 4 4, k = 2: middle number 1, nine tenths
-/// number ⌈18/10⌉ = 2.
+/// In each session: 0, 2 and 1 commit once, and only 1 had waited, from 3 to 7, with 2 clashes and
+/// no retry. Twice: clashes 2 + 2, ticks 4 + 4. Of the waits 4 4, k = 2: middle number 1, nine
+/// tenths number ⌈18/10⌉ = 2.
 const WHOLE_TWICE_SHEET: &str = "\
 logs 2
-task committed waited retries longest ticks waits
-0 2 0 0 0 0 0
-1 2 2 4 4 8 2
-2 2 0 0 0 0 0
+task committed waited clashes retries longest ticks waits
+0 2 0 0 0 0 0 0
+1 2 2 4 0 4 8 2
+2 2 0 0 0 0 0 0
 middle 4
 ninetenths 4
 most 1
@@ -103,10 +117,10 @@ left 0
 /// The same once. k = 1: numbers ⌈1/2⌉ = 1 and ⌈9/10⌉ = 1.
 const WHOLE_ONCE_SHEET: &str = "\
 logs 1
-task committed waited retries longest ticks waits
-0 1 0 0 0 0 0
-1 1 1 2 4 4 1
-2 1 0 0 0 0 0
+task committed waited clashes retries longest ticks waits
+0 1 0 0 0 0 0 0
+1 1 1 2 0 4 4 1
+2 1 0 0 0 0 0 0
 middle 4
 ninetenths 4
 most 1
@@ -114,28 +128,30 @@ left 0
 ";
 
 /// In each session: 0 commits at 7. Task 3's release at 8 admits 1, which waited from 3, 5 ticks,
-/// with 1 retry, and does not commit. Task 3's own wait is open at the end: not booked.
+/// with 1 clash and no retry, and does not commit. Task 3's own wait is open at the end: not
+/// booked.
 const DEFERRED_SHEET: &str = "\
 logs 2
-task committed waited retries longest ticks waits
-0 2 0 0 0 0 0
-1 0 0 2 5 10 2
-2 0 0 0 0 0 0
-3 0 0 0 0 0 0
+task committed waited clashes retries longest ticks waits
+0 2 0 0 0 0 0 0
+1 0 0 2 0 5 10 2
+2 0 0 0 0 0 0 0
+3 0 0 0 0 0 0 0
 middle 5
 ninetenths 5
 most 1
 left 0
 ";
 
-/// Task 1 waits from 3 to 4 with 1 retry and commits at 5. Task 2 waits from 2 to 5 with 2
-/// retries, booked at 5; it never commits. Of 1 3, k = 2: middle number 1, nine tenths number 2.
+/// Task 1 waits from 3 to 4 with 1 clash and commits at 5. Task 2 waits from 2 to 5 with 2
+/// clashes, booked at 5; it never commits. Each clash is a retry. Of 1 3, k = 2: middle number 1,
+/// nine tenths number 2.
 const PAIR_SHEET: &str = "\
 logs 1
-task committed waited retries longest ticks waits
-0 1 0 0 0 0 0
-1 1 1 1 1 1 1
-2 0 0 2 3 3 1
+task committed waited clashes retries longest ticks waits
+0 1 0 0 0 0 0 0
+1 1 1 1 1 1 1 1
+2 0 0 2 2 3 3 1
 middle 1
 ninetenths 3
 most 2 1
@@ -145,18 +161,51 @@ left 0
 /// Task 0 commits once, and none waits: k = 0.
 const NEW_SETS_SHEET: &str = "\
 logs 1
-task committed waited retries longest ticks waits
-0 1 0 0 0 0 0
-1 0 0 0 0 0 0
-2 0 0 0 0 0 0
-3 0 0 0 0 0 0
+task committed waited clashes retries longest ticks waits
+0 1 0 0 0 0 0 0
+1 0 0 0 0 0 0 0
+2 0 0 0 0 0 0 0
+3 0 0 0 0 0 0 0
 middle 0
 ninetenths 0
 most
 left 0
 ";
 
-/// Eleven times task 0 executes, task 1 waits for it, and both commit.
+/// Task 1 waits from 5 to 8 with 2 clashes, of which the first is a retry. Tasks 0, 2 and 1 commit
+/// once, and task 3 never. k = 1.
+const PLAIN_BELOW_SHEET: &str = "\
+logs 1
+task committed waited clashes retries longest ticks waits
+0 1 0 0 0 0 0 0
+1 1 1 2 1 3 3 1
+2 1 0 0 0 0 0 0
+3 0 0 0 0 0 0 0
+middle 3
+ninetenths 3
+most 1
+left 0
+";
+
+/// In each session all five commit once. Task 1 waits from 7 to 10, 3 ticks, and task 2 from 9 to
+/// 11, 2 ticks, with 1 clash and 1 retry each; task 3 from 5 to 13, 8 ticks, with 2 clashes and 1
+/// retry. Of 2 2 3 3 8 8, k = 6: middle number 3, nine tenths number ⌈54/10⌉ = 6.
+const WAITING_ABOVE_SHEET: &str = "\
+logs 2
+task committed waited clashes retries longest ticks waits
+0 2 0 0 0 0 0 0
+1 2 2 2 2 3 6 2
+2 2 2 2 2 2 4 2
+3 2 2 4 2 8 16 2
+4 2 0 0 0 0 0 0
+middle 3
+ninetenths 8
+most 3 1 2
+left 0
+";
+
+/// Eleven times task 0 executes, task 1 waits for it, and both commit. Each time no third task is
+/// there: 1 + 0 + 0 is below 2, so the clash is a retry.
 const ELEVEN_TEXT: &str = "\
 setup 2
 task 10 100 11
@@ -221,13 +270,13 @@ task 20 100 11
 end
 ";
 
-/// The waits are 1 to 11 in another order: the longest 11, the sum 66, each with 1 retry. k = 11:
-/// middle number ⌈11/2⌉ = 6, nine tenths number ⌈99/10⌉ = 10.
+/// The waits are 1 to 11 in another order: the longest 11, the sum 66, each with 1 clash and 1
+/// retry. k = 11: middle number ⌈11/2⌉ = 6, nine tenths number ⌈99/10⌉ = 10.
 const ELEVEN_SHEET: &str = "\
 logs 1
-task committed waited retries longest ticks waits
-0 11 0 0 0 0 0
-1 11 11 11 11 66 11
+task committed waited clashes retries longest ticks waits
+0 11 0 0 0 0 0 0
+1 11 11 11 11 11 66 11
 middle 6
 ninetenths 10
 most 1
@@ -258,16 +307,17 @@ end
 ";
 
 /// One event books a commit and four waits: of 1, 10 - 5 = 5 ticks; of 2, 10 - 1 = 9; of 3, 5; of
-/// 4, 0 ticks, which is a wait too. Each has 1 retry. Of 0 5 5 9, k = 4: middle number 2, nine
-/// tenths number ⌈36/10⌉ = 4. Tasks 1 and 3 have equal ticks: the lower number first.
+/// 4, 0 ticks, which is a wait too. Each has 1 clash, and a retry: for task 4, which has three
+/// above it, 1 + 0 + 3 is below 8. Of 0 5 5 9, k = 4: middle number 2, nine tenths number
+/// ⌈36/10⌉ = 4. Tasks 1 and 3 have equal ticks: the lower number first.
 const FOUR_SHEET: &str = "\
 logs 1
-task committed waited retries longest ticks waits
-0 1 0 0 0 0 0
-1 0 0 1 5 5 1
-2 0 0 1 9 9 1
-3 0 0 1 5 5 1
-4 1 1 1 0 0 1
+task committed waited clashes retries longest ticks waits
+0 1 0 0 0 0 0 0
+1 0 0 1 1 5 5 1
+2 0 0 1 1 9 9 1
+3 0 0 1 1 5 5 1
+4 1 1 1 1 0 0 1
 middle 5
 ninetenths 9
 most 2 1 3 4
@@ -309,15 +359,16 @@ task 30 100 5
 end
 ";
 
-/// The first session books a commit of 0 and a wait of 2, from 2 to 3 with 1 retry. In the second
-/// one the commits of 1 and 2 at 6 are of transactions that had not waited, and the wait of 1
-/// booked at 10 runs from 8: 2 ticks, with 1 retry. Of 1 2, k = 2: numbers 1 and 2.
+/// The first session books a commit of 0 and a wait of 2, from 2 to 3 with 1 clash, a retry: task 0
+/// executes and task 1 is plain, 1 + 1 + 0, and m is 3. In the second one the commits of 1 and 2 at
+/// 6 are of transactions that had not waited, and the wait of 1 booked at 10 runs from 8: 2 ticks,
+/// with 1 clash, a retry: task 0 executes and task 2 is plain. Of 1 2, k = 2: numbers 1 and 2.
 const NONE_OPEN_SHEET: &str = "\
 logs 2
-task committed waited retries longest ticks waits
-0 2 0 0 0 0 0
-1 1 0 1 2 2 1
-2 1 0 1 1 1 1
+task committed waited clashes retries longest ticks waits
+0 2 0 0 0 0 0 0
+1 1 0 1 1 2 2 1
+2 1 0 1 1 1 1 1
 middle 1
 ninetenths 2
 most 1 2
@@ -350,21 +401,24 @@ task 5 100 5
 end
 ";
 
-/// Accepted are one commit of 0 at 6, which admits 1 after 6 - 2 = 4 ticks with 1 retry, and one
-/// commit of 1 at 8. At 6 task 1 executes and 0 is plain above 2, so 2 is on no processor.
+/// Accepted are one commit of 0 at 6, which admits 1 after 6 - 2 = 4 ticks with 1 clash, and one
+/// commit of 1 at 8. The clash is no retry: task 0 executes and task 2 is plain, although below
+/// task 1, 1 + 1 + 0, and m is 2. At 6 task 1 executes and 0 is plain above 2, so 2 is on no
+/// processor.
 const REFUSED_SHEET: &str = "\
 logs 1
-task committed waited retries longest ticks waits
-0 1 0 0 0 0 0
-1 1 1 1 4 4 1
-2 0 0 0 0 0 0
+task committed waited clashes retries longest ticks waits
+0 1 0 0 0 0 0 0
+1 1 1 1 0 4 4 1
+2 0 0 0 0 0 0 0
 middle 4
 ninetenths 4
 most 1
 left 0
 ";
 
-/// Task 1 waits from 0 to MAX: its ticks come to MAX exactly, which does not pass.
+/// Task 1 waits from 0 to MAX: its ticks come to MAX exactly, which does not pass. In this session
+/// and the next the two tasks are alone on two processors, so that each clash is a retry.
 const FULL_TEXT: &str = "\
 setup 2
 task 10 100 5
@@ -402,19 +456,20 @@ end
 
 /// Committed by 0: at MAX, at 5 and at 10, not at 8: 3. By 1: at MAX, at 6 and at 9, and each had
 /// waited, the last one too, although its wait is not booked: 3 and 3. Waits of 1: MAX and 0, with
-/// 1 retry each. Of 0 MAX, k = 2: numbers 1 and 2.
+/// 1 clash and 1 retry each; those of the wait left out stay out. Of 0 MAX, k = 2: numbers 1 and 2.
 const AFTER_SHEET: &str = "\
 logs 2
-task committed waited retries longest ticks waits
-0 3 0 0 0 0 0
-1 3 3 2 4294967295 4294967295 2
+task committed waited clashes retries longest ticks waits
+0 3 0 0 0 0 0 0
+1 3 3 2 2 4294967295 4294967295 2
 middle 0
 ninetenths 4294967295
 most 1
 left 1
 ";
 
-/// Task 1 waits from 0 to MAX - 4, and does not commit.
+/// Task 1 waits from 0 to MAX - 4, and does not commit. It clashes once, a retry: 1 + 0 + 0, and m
+/// is 2.
 const ALMOST_FULL_TEXT: &str = "\
 setup 2
 task 10 100 1
@@ -454,22 +509,23 @@ end
 
 /// Task 1's wait from 3 to 8 would make its ticks MAX - 4 + 5 = MAX + 1: the release at 8 is left
 /// out. The wait that it opens still runs from 8: the commit of 2 at 10 admits 3 after 2 ticks
-/// with 1 retry. The commit of 1 at 11 is of a transaction that had waited. Committed by 0: once
-/// in each session. Waits booked: MAX - 4 and 2; k = 2.
+/// with 1 clash and no retry: tasks 1 and 2 execute and task 0 is plain, 2 + 1 + 0, and m is 2. The
+/// commit of 1 at 11 is of a transaction that had waited. Committed by 0: once in each session.
+/// Waits booked: MAX - 4 and 2; k = 2.
 const OPENS_SHEET: &str = "\
 logs 2
-task committed waited retries longest ticks waits
-0 2 0 0 0 0 0
-1 1 1 1 4294967291 4294967291 1
-2 1 0 0 0 0 0
-3 1 1 1 2 2 1
+task committed waited clashes retries longest ticks waits
+0 2 0 0 0 0 0 0
+1 1 1 1 1 4294967291 4294967291 1
+2 1 0 0 0 0 0 0
+3 1 1 1 0 2 2 1
 middle 2
 ninetenths 4294967291
 most 1 3
 left 1
 ";
 
-/// Task 1 waits from 0 to MAX.
+/// Task 1 waits from 0 to MAX. It clashes once, a retry: 1 + 0 + 0, and m is 3.
 const FIRST_FULL_TEXT: &str = "\
 setup 3
 task 10 100 9
@@ -483,7 +539,7 @@ task 20 100 9
 end
 ";
 
-/// Task 2 waits from 0 to MAX.
+/// Task 2 waits from 0 to MAX. It clashes once, a retry: 1 + 0 + 0, and m is 3.
 const LAST_FULL_TEXT: &str = "\
 setup 3
 task 10 100 9
@@ -497,8 +553,9 @@ task 20 100 9
 end
 ";
 
-/// The commit of 0 at 5 admits 1 after 3 ticks, and then 2 after 2 ticks, with 1 retry each. The
-/// commit of 0 at 12 admits 2 after 4 ticks, with 1 retry.
+/// The commit of 0 at 5 admits 1 after 3 ticks, and then 2 after 2 ticks, with 1 clash and 1 retry
+/// each: 1 + 0 + 0, and 1 + 0 + 1. The commit of 0 at 12 admits 2 after 4 ticks, with 1 clash, a
+/// retry: task 1 is plain, 1 + 1 + 0.
 const TWO_TEXT: &str = "\
 setup 3
 task 10 100 9
@@ -524,10 +581,10 @@ end
 /// task 2's only wait has 4 ticks. Of 4 MAX, k = 2: numbers 1 and 2.
 const FIRST_FULL_SHEET: &str = "\
 logs 2
-task committed waited retries longest ticks waits
-0 2 0 0 0 0 0
-1 1 1 1 4294967295 4294967295 1
-2 1 1 1 4 4 1
+task committed waited clashes retries longest ticks waits
+0 2 0 0 0 0 0 0
+1 1 1 1 1 4294967295 4294967295 1
+2 1 1 1 1 4 4 1
 middle 4
 ninetenths 4294967295
 most 1 2
@@ -539,10 +596,10 @@ left 1
 /// and 1 has no wait booked, although its transaction had waited. k = 1.
 const LAST_FULL_SHEET: &str = "\
 logs 2
-task committed waited retries longest ticks waits
-0 1 0 0 0 0 0
-1 1 1 0 0 0 0
-2 1 1 1 4294967295 4294967295 1
+task committed waited clashes retries longest ticks waits
+0 1 0 0 0 0 0 0
+1 1 1 0 0 0 0 0
+2 1 1 1 1 4294967295 4294967295 1
 middle 4294967295
 ninetenths 4294967295
 most 2
@@ -569,15 +626,16 @@ task 20 100 9
 end
 ";
 
-/// At 3 the commit of 0 and the wait of 2, 1 tick with 1 retry, fit. At 6 task 1, after 2 ticks,
-/// would come to MAX + 2: the commit of 2, which had waited, is left out. At 7 task 1 had waited.
-/// At 9 task 2 had not: of its two commits the one that counts had not waited. Of 1 MAX, k = 2.
+/// At 3 the commit of 0 and the wait of 2, 1 tick with 1 clash, fit; the clash is a retry: task 1
+/// is plain, 1 + 1 + 0, and m is 3. At 6 task 1, after 2 ticks, would come to MAX + 2: the commit
+/// of 2, which had waited, is left out. At 7 task 1 had waited. At 9 task 2 had not: of its two
+/// commits the one that counts had not waited. Of 1 MAX, k = 2.
 const CHAIN_SHEET: &str = "\
 logs 2
-task committed waited retries longest ticks waits
-0 2 0 0 0 0 0
-1 1 1 1 4294967295 4294967295 1
-2 1 0 1 1 1 1
+task committed waited clashes retries longest ticks waits
+0 2 0 0 0 0 0 0
+1 1 1 1 1 4294967295 4294967295 1
+2 1 0 1 1 1 1 1
 middle 1
 ninetenths 4294967295
 most 1 2

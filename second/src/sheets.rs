@@ -335,6 +335,7 @@ impl<W: Write> Comparison<'_, W> {
     fn sums(mut self) -> io::Result<bool> {
         self.counts.print(&mut self.score.report)?;
         self.score.book_classes(&self.counts.must_come_up())?;
+        self.score.book_nevers(&self.counts.must_not_come_up())?;
         writeln!(self.score.report, "{} lists compared", self.lists)?;
         self.score.last_line()
     }

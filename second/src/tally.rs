@@ -1,7 +1,7 @@
 //! The tally of a report: what each event books, and the figures of all that was booked.
 //!
-//! Every name here is a word of request CR 1 in document 02. The figures are kept wider than any
-//! total may be, so that one that would pass is seen plainly.
+//! Every name here is a word of requests CR 1 and CR 2 in document 02. The figures are kept wider
+//! than any total may be, so that one that would pass is seen plainly.
 
 use std::cmp::Reverse;
 use std::collections::{BTreeMap, BTreeSet, VecDeque};
@@ -33,6 +33,7 @@ pub struct Commit {
 pub struct Wait {
     pub task: u8,
     pub ticks: u64,
+    pub clashes: u64,
     pub retries: u64,
 }
 
@@ -69,6 +70,7 @@ impl Memory {
             booking.waits.push(Wait {
                 task,
                 ticks: u64::from(event.tick - since),
+                clashes: u64::from(admission.clashes),
                 retries: u64::from(admission.retries),
             });
         }
@@ -88,6 +90,8 @@ pub struct Figures {
     pub committed: u64,
     /// How many of them had waited.
     pub waited: u64,
+    /// Clashes of the waits booked.
+    pub clashes: u64,
     /// Retries of the waits booked.
     pub retries: u64,
     /// The longest wait booked, in ticks.
@@ -104,6 +108,7 @@ impl Figures {
     }
 
     pub fn add_wait(&mut self, wait: &Wait) {
+        self.clashes += wait.clashes;
         self.retries += wait.retries;
         self.longest = self.longest.max(wait.ticks);
         self.ticks += wait.ticks;
@@ -115,6 +120,7 @@ impl Figures {
         let totals = [
             self.committed,
             self.waited,
+            self.clashes,
             self.retries,
             self.ticks,
             self.waits,

@@ -1,4 +1,7 @@
 //! Sessions with the lines they must give, and texts that must be refused.
+//!
+//! A sum in a comment is the one that decides on a retry, just before a commit: executing tasks +
+//! plain tasks + waiting tasks ranked above.
 
 /// A session in readable text, and its lines.
 pub struct Written {
@@ -7,7 +10,7 @@ pub struct Written {
     pub lines: &'static str,
 }
 
-pub const SESSIONS: [Written; 4] = [
+pub const SESSIONS: [Written; 6] = [
     Written {
         name: "the session of 01",
         text: WHOLE_TEXT,
@@ -28,9 +31,22 @@ pub const SESSIONS: [Written; 4] = [
         text: NEW_SETS_TEXT,
         lines: NEW_SETS_LINES,
     },
+    Written {
+        name: "a retry, and then a clash without one: plain tasks below count",
+        text: PLAIN_BELOW_TEXT,
+        lines: PLAIN_BELOW_LINES,
+    },
+    Written {
+        name: "a clash without a retry, and then one: waiting tasks above count",
+        text: WAITING_ABOVE_TEXT,
+        lines: WAITING_ABOVE_LINES,
+    },
 ];
 
 /// "A whole session" of document 01. At tick 5 task 2 runs although it clashes with waiting task 1.
+///
+/// Both commits that task 1 waits for clash with it, and neither is a retry, since m is 2: at 6
+/// tasks 0 and 2 execute, 2 + 0 + 0; at 7 task 2 executes and task 0 is plain, 1 + 1 + 0.
 pub const WHOLE_TEXT: &str = "\
 setup 2
 task 10 100 2
@@ -63,7 +79,7 @@ setup 2 3
 5 release 2 run
 6 commit 0 ok
 7 commit 2 ok
-7 admit 1 2
+7 admit 1 2 0
 8 finish 0 no 6
 8 commit 1 ok
 9 finish 1 ok
@@ -74,7 +90,8 @@ end 12 2
 ";
 
 /// "Easy to get wrong", the first case: when task 0 commits, task 1 has no room, since task 3 is
-/// plain above it. The scan after task 3's deferred release admits it.
+/// plain above it. The scan after task 3's deferred release admits it. The commit is no retry:
+/// tasks 0 and 2 execute and task 3 is plain, 2 + 1 + 0, and m is 2.
 pub const DEFERRED_TEXT: &str = "\
 setup 2
 task 10 100 1
@@ -104,12 +121,15 @@ setup 2 4
 6 arrive 3 ok
 7 commit 0 ok
 8 release 3 wait 2 1
-8 admit 1 1
+8 admit 1 1 0
 end 9 0
 ";
 
 /// "Easy to get wrong", the third case: the two waiting tasks clash with each other, so that the
 /// commit of task 0 admits only the higher one, although both have room.
+///
+/// m is 3, and every clash is a retry. At 4 task 0 executes: 1 + 0 + 0 for task 1, and for task 2,
+/// with task 1 above it, 1 + 0 + 1. At 5 task 1 executes and task 0 is plain: 1 + 1 + 0 for task 2.
 pub const PAIR_TEXT: &str = "\
 setup 3
 task 30 100 1
@@ -135,9 +155,9 @@ setup 3 3
 2 release 2 wait 9 2
 3 release 1 wait 200 1
 4 commit 0 ok
-4 admit 1 1
+4 admit 1 1 1
 5 commit 1 ok
-5 admit 2 2
+5 admit 2 2 2
 end 8 0
 ";
 
@@ -175,6 +195,109 @@ setup 4 4
 5 release 2 run
 6 release 3 no 7
 end 9 1
+";
+
+/// Task 1 ranks highest and waits for task 0 and for task 2; m is 3. At 6 these two execute:
+/// 2 + 0 + 0, a retry. At 8 task 2 executes and tasks 0 and 3 are plain: 1 + 2 + 0, no retry.
+///
+/// With only the plain tasks that rank above it, of which there are none, 8 would be a retry too;
+/// and so it would with task 2 gone already: 0 + 2 + 0.
+pub const PLAIN_BELOW_TEXT: &str = "\
+setup 3
+task 10 100 1
+task 40 100 1
+task 20 100 1
+task 5 100 1
+0 arrive 0
+1 release 0 reads writes 1
+2 arrive 2
+3 release 2 reads writes 2
+4 arrive 1
+5 release 1 reads writes 1 2
+6 commit 0
+7 arrive 3
+8 commit 2
+9 commit 1
+end
+";
+
+const PLAIN_BELOW_LINES: &str = "\
+setup 3 4
+0 arrive 0 ok
+1 release 0 run
+2 arrive 2 ok
+3 release 2 run
+4 arrive 1 ok
+5 release 1 wait 1 2
+6 commit 0 ok
+7 arrive 3 ok
+8 commit 2 ok
+8 admit 1 2 1
+9 commit 1 ok
+end 10 0
+";
+
+/// Of the waiting tasks 2 ranks highest, then 1, then 3, which has 1's priority and a higher
+/// number; m is 4. At 10 tasks 0 and 4 execute. The commit of 0 does not clash with task 2. It
+/// clashes with task 1, which has task 2 above it: 2 + 0 + 1, a retry. It clashes with task 3,
+/// which has 2 and 1 above it: 2 + 0 + 2, no retry. Task 1 is admitted; 2 clashes with 4, 3 with 1.
+///
+/// At 11 tasks 4 and 1 execute and task 0 is plain; the commit of 4 clashes with task 2 alone:
+/// 2 + 1 + 0, a retry. At 13 tasks 1 and 2 execute and task 4 is plain; the commit of 1 clashes
+/// with task 3: 2 + 1 + 0, a retry.
+///
+/// At 10, with the waiting tasks below counted too, 1 would have 2 + 0 + 2, no retry. Without the
+/// waiting ones, or with only those that clash with task 0, or with task 0 gone already, 3 would
+/// have 2 + 0 + 0, 2 + 0 + 1 or 1 + 0 + 2, a retry. After the scan tasks 4 and 1 execute and task 0
+/// is plain, so that 1 would have 2 + 1 + 1, no retry.
+pub const WAITING_ABOVE_TEXT: &str = "\
+setup 4
+task 5 100 1
+task 10 100 1
+task 30 100 1
+task 10 100 1
+task 7 100 1
+0 arrive 0
+1 release 0 reads writes 1 3
+2 arrive 4
+3 release 4 reads writes 2
+4 arrive 3
+5 release 3 reads 1 3 writes
+6 arrive 1
+7 release 1 reads writes 1
+8 arrive 2
+9 release 2 reads 2 writes
+10 commit 0
+11 commit 4
+12 finish 0
+13 commit 1
+14 commit 3
+15 commit 2
+end
+";
+
+const WAITING_ABOVE_LINES: &str = "\
+setup 4 5
+0 arrive 0 ok
+1 release 0 run
+2 arrive 4 ok
+3 release 4 run
+4 arrive 3 ok
+5 release 3 wait 1 2
+6 arrive 1 ok
+7 release 1 wait 1 1
+8 arrive 2 ok
+9 release 2 wait 2 1
+10 commit 0 ok
+10 admit 1 1 1
+11 commit 4 ok
+11 admit 2 1 1
+12 finish 0 ok
+13 commit 1 ok
+13 admit 3 2 1
+14 commit 3 ok
+15 commit 2 ok
+end 16 0
 ";
 
 /// Texts that have no log, with the line in which that shows.

@@ -1,4 +1,4 @@
-// Document 01's worked cases, each refusal from 1 to 28, how near the sum a retry count comes, and each kind of record there and back.
+// Document 01's worked cases, one of request 2, each refusal from 1 to 28, how near the sum a clash count comes, and each kind of record there and back.
 //
 // The whole session and the first item under 'Easy to get wrong' are printed as 01 has them; with each refusal it is seen that the session stays.
 mod back;
@@ -101,16 +101,21 @@ fn whole_session() {
     print::sum_line(session::sum(s, 3, 4));
 }
 
-// 'Scanning after commits only': the release that waits at tick 8 admits task 1. Object 1 is 2, object 2 is 4.
-fn deferred_release_scans() {
-    let u = setup_of(
-        2,
+// Four tasks whose priorities rise with their numbers, on m processors.
+fn rising(m: u8) -> Setup {
+    setup_of(
+        m,
         4,
         terms_of(10, 100, 1),
         terms_of(20, 100, 1),
         terms_of(30, 100, 1),
         terms_of(40, 100, 1),
-    );
+    )
+}
+
+// 'Scanning after commits only': the release that waits at tick 8 admits task 1. It did not run at tick 7: two were executing. Object 1 is 2, object 2 is 4.
+fn deferred_release_scans() {
+    let u = rising(2);
     let started = setup::setup(u);
     print::setup_line(u);
     let mut s = started.session;
@@ -123,6 +128,28 @@ fn deferred_release_scans() {
     s = go(s, event(Kind::Arrive, 6, 3));
     s = go(s, event(Kind::Commit, 7, 0));
     s = go(s, release(8, 3, 0, 4));
+    print::end_line(s.accepted, 0);
+}
+
+// A retry that ran, and some that did not. Tasks 2 and 3 wait; 3 ranks above 2, and both rank above 0 and 1. Executing, all plain, and waiting tasks ranked above:
+// tick 8, for task 3: 2 + 0 + 0 < 3, a retry; for task 2: 2 + 0 + 1, none. So task 2 is admitted with 1 clash and no retry.
+// tick 9, for task 3: 2 + 1 + 0, none: task 0 is plain, though it ranks below. So task 3 is admitted with 2 clashes and 1 retry.
+// Object 1 is 2, object 2 is 4, object 3 is 8.
+fn ran_and_did_not() {
+    let u = rising(3);
+    let started = setup::setup(u);
+    print::setup_line(u);
+    let mut s = started.session;
+    s = go(s, event(Kind::Arrive, 0, 0));
+    s = go(s, release(1, 0, 8, 2));
+    s = go(s, event(Kind::Arrive, 2, 1));
+    s = go(s, release(3, 1, 0, 4));
+    s = go(s, event(Kind::Arrive, 4, 2));
+    s = go(s, release(5, 2, 0, 8));
+    s = go(s, event(Kind::Arrive, 6, 3));
+    s = go(s, release(7, 3, 2, 4));
+    s = go(s, event(Kind::Commit, 8, 0));
+    s = go(s, event(Kind::Commit, 9, 1));
     print::end_line(s.accepted, 0);
 }
 
@@ -185,6 +212,7 @@ fn bad_setups(a: Terms, b: Terms) {
 fn main() {
     whole_session();
     deferred_release_scans();
+    ran_and_did_not();
     let none = terms_of(0, 0, 0);
     let a = terms_of(10, 100, 1);
     let b = terms_of(20, 50, 1);

@@ -3,8 +3,9 @@ use rules::Arrival;
 use rules::Session;
 use rules::State;
 use rules::Task;
+use rules::Wait;
 
-// A number for a state and one for what it holds: equal for equal states alone.
+// A number for a state, and the wait that it holds: equal for equal states alone.
 fn state_code(state: State) -> u64 {
     match state {
         State::Absent => 0,
@@ -14,28 +15,24 @@ fn state_code(state: State) -> u64 {
     }
 }
 
-fn state_release(state: State) -> u32 {
-    match state {
-        State::Waiting(wait) => wait.release,
-        State::Absent => 0,
-        State::Plain => 0,
-        State::Executing => 0,
-    }
-}
-
-fn state_retries(state: State) -> u32 {
-    match state {
-        State::Waiting(wait) => wait.retries,
-        State::Absent => 0,
-        State::Plain => 0,
-        State::Executing => 0,
-    }
+fn state_wait(state: State) -> Wait {
+    let State::Waiting(wait) = state else {
+        return Wait {
+            release: 0,
+            clashes: 0,
+            retries: 0,
+        };
+    };
+    wait
 }
 
 fn same_state(a: State, b: State) -> bool {
+    let wait = state_wait(a);
+    let other = state_wait(b);
     state_code(a) == state_code(b)
-        && state_release(a) == state_release(b)
-        && state_retries(a) == state_retries(b)
+        && wait.release == other.release
+        && wait.clashes == other.clashes
+        && wait.retries == other.retries
 }
 
 fn same_arrival(a: Arrival, b: Arrival) -> bool {

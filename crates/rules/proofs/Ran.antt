@@ -1,6 +1,6 @@
 -- Who ran just before a commit, by the calls, is who ran by the session: where history says each task's state, terms and last arrival. And of any calls, those that count
 -- as retries are among those that count as clashes.
-use Prim.Native.Nat.{ℕ, _+_, _≤_, _<_}
+use Prim.Native.Nat.{ℕ, _+_, _≤_, _<_, zero-le}
 use mathlib.Core.Path.{_≡_, refl, sym, ap, ap₂, _∙_}
 use mathlib.Core.List.{List, [], _∷_}
 use mathlib.Core.Bool.{Bool, true, false, cond, _&&_}
@@ -8,7 +8,7 @@ use native.Mathlib.Nat.{le-of-eq}
 use native.Mathlib.Omega.{arith}
 use lib.Dec.{ltb}
 use Rattle.objects.specs.Below.{one, count}
-use Rattle.objects.proofs.Laws.Below.{count-ext}
+use Rattle.objects.proofs.Laws.Below.{and-left, count-ext}
 use Rattle.rules.specs.declared.State.{State}
 use Rattle.rules.specs.declared.State.the-variants.{Absent, Plain, Waiting, Executing}
 use Rattle.rules.specs.declared.Session.{Session}
@@ -66,19 +66,23 @@ ran-told rank stays start s calls m-same n-same told i l =
 
 -- ---- fewer
 
-one-both : (w a b : Bool) → one (w && (a && b)) ≤ one (w && a)
-one-both false a b = le-of-eq refl
-one-both true false b = le-of-eq refl
-one-both true true false = omega arith
-one-both true true true = le-of-eq refl
+one-mono : (w a b : Bool) → (a ≡ true → b ≡ true) → one (w && a) ≤ one (w && b)
+one-mono false a b h = le-of-eq refl
+one-mono true false b h = zero-le
+one-mono true true b h = le-of-eq (ap one (sym (h refl)))
+
+-- what has f has g: so there are no more of f
+during-mono : (f g : Call → List Call → Bool) → ((c : Call) (before : List Call) → f c before ≡ true → g c before ≡ true) → (i : ℕ) (calls : List Call)
+    → during f i calls ≤ during g i calls
+unfolding during
+during-mono f g h i [] = zero-le
+during-mono f g h i (c ∷ before) = go (deferred c i) (during-mono f g h i before)
+  where
+    go : (b : Bool) → during f i before ≤ during g i before
+        → cond b 0 (during f i before + one (inWait i before && f c before)) ≤ cond b 0 (during g i before + one (inWait i before && g c before))
+    go true ih = zero-le
+    go false ih = omega (arith, ih, one-mono (inWait i before) (f c before) (g c before) (h c before))
 
 pub retried-fewer : (rank : Ranking) (start : Session) (i : ℕ) (calls : List Call) → retried rank start i calls ≤ passed i calls
-unfolding retried passed during reruns
-retried-fewer rank start i [] = le-of-eq refl
-retried-fewer rank start i (c ∷ before) = go (deferred c i) (retried-fewer rank start i before)
-  where
-    go : (b : Bool) → retried rank start i before ≤ passed i before
-        → cond b 0 (retried rank start i before + one (inWait i before && (passes i c before && ranBy rank start i before)))
-        ≤ cond b 0 (passed i before + one (inWait i before && passes i c before))
-    go true ih = le-of-eq refl
-    go false ih = omega (arith, ih, one-both (inWait i before) (passes i c before) (ranBy rank start i before))
+unfolding retried passed reruns
+retried-fewer rank start i = during-mono (reruns rank start i) (passes i) (λ c before. and-left (passes i c before) _) i

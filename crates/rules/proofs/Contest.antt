@@ -1,12 +1,9 @@
 -- What is decided of a transaction against those that execute is what is said plainly: a yes of `any` has a task that gives it, and the other way round.
 use Prim.Native.Nat.{ℕ}
-use mathlib.Core.Path.{_≡_}
-use mathlib.Core.Bool.{Bool, true, _&&_}
-use Rattle.objects.specs.Below.{any}
-use Rattle.objects.specs.Objects.{Sets, clash, clashOn}
+use mathlib.Core.Bool.{Bool, _&&_}
+use Rattle.objects.specs.Objects.{clash, clashOn}
 use Rattle.objects.proofs.Laws.Below.{any-witness, any-at, and-left, and-right, and-both}
 use Rattle.objects.proofs.Laws.Clash.{clash-plain, clash-on-plain}
-use Rattle.rules.specs.declared.Session.{Session}
 use Rattle.rules.specs.Tasks.{executing, setsAt}
 use Rattle.rules.specs.Contest.{blocked, contestedOn, BlockedPlain, ContestedPlain}
 

@@ -12,7 +12,7 @@ use lib.Seq.{getD-set-same, getD-set-other}
 use Rattle.objects.specs.Objects.{Sets, clash}
 use Rattle.objects.proofs.Laws.Below.{below-suc}
 use Rattle.rules.specs.declared.State.{State}
-use Rattle.rules.specs.declared.State.the-variants.{Absent, Plain, Waiting, Executing}
+use Rattle.rules.specs.declared.State.the-variants.{Absent, Plain, Executing}
 use Rattle.rules.specs.declared.Task.{Task}
 use Rattle.rules.specs.declared.Session.{Session}
 use Rattle.rules.specs.declared.Kind.{Kind}

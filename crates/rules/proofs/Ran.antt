@@ -16,7 +16,7 @@ use Rattle.rules.specs.Ranking.{Ranking}
 use Rattle.rules.specs.Tasks.{isPlain, isWaiting, isExecuting, taskAt, stateAt, plain, waiting, executing}
 use Rattle.rules.specs.Room.{rankAt, waitingAbove, ran}
 use Rattle.rules.specs.Reachable.{Stays}
-use Rattle.rules.specs.History.{Call, stage, isWaits, inWait, isPlains, isExecutes, deferred, during, passes, passed, lastArrival, rankBy, ranBy, reruns, retried}
+use Rattle.rules.specs.History.{Call, stage, isWaits, inWait, isPlains, isExecutes, deferred, during, passes, passed, rankBy, ranBy, reruns, retried}
 use Rattle.rules.specs.Demand3.{stageOf, Told}
 
 -- ---- a stage is that of a state

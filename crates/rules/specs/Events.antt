@@ -1,9 +1,9 @@
 -- The four events: the number that refuses one, and the answer with the session after it.
 use Prim.Native.Nat.{ℕ, zero, suc, _+_, min}
 use mathlib.Core.List.{List, [], _∷_}
-use mathlib.Core.Bool.{Bool, true, false, cond, not, _&&_}
+use mathlib.Core.Bool.{Bool, false, cond, _&&_}
 use lib.Dec.{eqb, leb, ltb}
-use lib.ListN.{getD, set, replicate}
+use lib.ListN.{set, replicate}
 use Rattle.objects.specs.Objects.{Sets, clash}
 use Rattle.rules.specs.declared.State.{State}
 use Rattle.rules.specs.declared.State.the-variants.{Absent, Plain, Waiting, Executing}
@@ -11,7 +11,6 @@ use Rattle.rules.specs.declared.Arrival.{Arrival}
 use Rattle.rules.specs.declared.Arrival.the-variants.{Never, At}
 use Rattle.rules.specs.declared.Task.{Task}
 use Rattle.rules.specs.declared.Session.{Session}
-use Rattle.rules.specs.declared.Kind.{Kind}
 use Rattle.rules.specs.declared.Kind.the-variants.{Arrive, Release, Commit, Finish}
 use Rattle.rules.specs.declared.Event.{Event}
 use Rattle.rules.specs.declared.Said.{Said}
@@ -21,7 +20,7 @@ use Rattle.rules.specs.Ranking.{Ranking}
 use Rattle.rules.specs.Tasks.{isAbsent, isPlain, isExecuting, taskAt, stateAt, waiting, setsAt, setsOf, known, inState, withTasks, withTask, withSets, stamped}
 use Rattle.rules.specs.Room.{room, ran}
 use Rattle.rules.specs.Contest.{blocked, lowestContested, contestedCount}
-use Rattle.rules.specs.Scan.{Scanned, none, scan}
+use Rattle.rules.specs.Scan.{none, scan}
 
 -- ---- 'Events try 1 to 7 in that order': the first that is given
 

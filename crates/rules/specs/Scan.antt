@@ -3,7 +3,6 @@ use Prim.Native.Nat.{ℕ, zero, suc, _+_}
 use mathlib.Core.Bool.{Bool, cond, not, _&&_, _||_}
 use lib.Dec.{eqb, leb, ltb}
 use lib.ListN.{set, replicate}
-use Rattle.objects.specs.Below.{any}
 use Rattle.rules.specs.declared.State.{State}
 use Rattle.rules.specs.declared.State.the-variants.{Executing}
 use Rattle.rules.specs.declared.Session.{Session}

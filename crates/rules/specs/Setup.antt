@@ -2,7 +2,7 @@
 use Prim.Native.Nat.{ℕ, zero, suc}
 use mathlib.Core.Path.{_≡_}
 use mathlib.Core.List.{List}
-use mathlib.Core.Bool.{Bool, true, cond, not, _&&_}
+use mathlib.Core.Bool.{Bool, true, cond, _&&_}
 use lib.Dec.{eqb}
 use lib.ListN.{getD, set, replicate}
 use Rattle.objects.specs.Below.{all}

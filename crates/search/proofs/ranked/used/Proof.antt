@@ -12,7 +12,7 @@ use borrow.Author.Needs.{needs}
 use borrow.Author.Tests.{eq-eqb, ne-eqb, lt-ltb, le-ltb}
 use Rattle.objects.specs.Below.{count, one}
 use Rattle.objects.proofs.Laws.Below.{one-le, or-left, or-right, count-empty, count-more, count-le}
-use Rattle.search.specs.Searches.{alwaysIn, aboveIn, usedIn}
+use Rattle.search.specs.Searches.{alwaysIn, usedIn}
 use Rattle.search.proofs.Laws.Past.{absent-past, count-held}
 use Rattle.search.proofs.ranked.used.Statement.{statement}
 use Rattle.search.proofs.ranked.used.Tie as tie

@@ -1,5 +1,4 @@
 -- `session::rows::one_more_if` meets its contract, by the two ways through it. Assumes nothing.
-use mathlib.Core.Path.{_≡_, sym, _∙_}
 use borrow.Author.Needs.{needs}
 use Rattle.session.proofs.rows.one_more_if.Statement.{statement}
 use Rattle.session.proofs.rows.one_more_if.Tie as tie

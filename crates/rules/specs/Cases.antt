@@ -1,4 +1,4 @@
--- Document 01's worked cases, as claims about the lines.
+-- Document 01's worked cases, and one of request 2, as claims about the lines.
 use Prim.Native.Nat.{ℕ, _^_}
 use mathlib.Core.Path.{_≡_}
 use mathlib.Core.List.{List, [], _∷_, _++_}

@@ -39,10 +39,9 @@ use Rattle.report.proofs.Laws.Events.{Underway, Books, books as booksEv
 
 -- ---- a session that is open
 
-fresh-underway : (v : Setup) → setupNumber v ≡ 0 → Underway (opened (fresh v)) []
+fresh-underway : (v : Setup) → setupNumber v ≡ 0 → Underway v (opened (fresh v)) []
 unfolding hadWaited
 fresh-underway v good = record {
-  start = fresh v;
   starts = fresh-starts byPriority v good;
   run = startsRun;
   size = length-replicate 64 false;
@@ -50,10 +49,10 @@ fresh-underway v good = record {
 }
 
 session : {u : Setup} {start : List ℕ} {t : Tally} {row : List ℕ} {o : OpenSession} {s : Sitting} {earlier : List Sitting}
-    → Reported u start t row o (s ∷ earlier) → Underway o (s .calls)
+    → Reported u start t row o (s ∷ earlier) → Underway (s .setup) o (s .calls)
 unfolding booking
 session (opens {t = t} r v z) = rw (opening-is t v z) (fresh-underway v (opens-setup t v z))
-session (books {o = o} {s = s} r e) = underway o (s .calls) (session r) e
+session (books {o = o} {s = s} r e) = underway (s .setup) o (s .calls) (session r) e
 
 -- ---- what is booked
 
@@ -73,7 +72,7 @@ empty-holds u start = record {
   row-is = refl;
 }
 
-module _ (start : List ℕ) (t : Tally) (row : List ℕ) (o : OpenSession) (s : Sitting) (earlier : List Sitting) (p : Underway o (s .calls))
+module _ (start : List ℕ) (t : Tally) (row : List ℕ) (o : OpenSession) (s : Sitting) (earlier : List Sitting) (p : Underway (s .setup) o (s .calls))
     (holds : Holds start t row (ledger (s ∷ earlier))) (e : Event) where
   abbrev calls : List Call
   calls = s .calls
@@ -85,10 +84,10 @@ module _ (start : List ℕ) (t : Tally) (row : List ℕ) (o : OpenSession) (s : 
   booked = ledger (s ∷ earlier)
 
   abbrev new : List Item
-  new = booksOf (heard e a) calls
+  new = booksOf (s .setup) (heard e a) calls
 
-  event : Books o calls e a
-  event = booksEvent o calls p e
+  event : Books (s .setup) o calls e a
+  event = booksEvent (s .setup) o calls p e
 
   -- 41 is tried item by item, and is what is asked of the totals
   tried : enterable (t .figures) (items o e a) ≡ fitting (booked ++ new)

@@ -19,8 +19,9 @@ use Rattle.rules.specs.Answers.{number}
 use Rattle.rules.specs.Ranking.{byPriority}
 use Rattle.rules.specs.Tasks.{noTerms, noTask}
 use Rattle.rules.specs.Setup.{setupNumber, sameSetup, fresh, noSession}
+use Rattle.rules.specs.Scan.{noAdmission}
 use Rattle.rules.specs.Events.{step}
-use Rattle.rules.specs.History.{noAdmission, isRelease, isCommit, isWait}
+use Rattle.rules.specs.History.{isRelease, isCommit, isWait}
 use Rattle.report.specs.declared.Figures.{Figures}
 use Rattle.report.specs.declared.Tally.{Tally}
 use Rattle.report.specs.declared.OpenSession.{OpenSession}
@@ -67,9 +68,9 @@ ticksOf Plain tick = 0
 ticksOf (Waiting w) tick = tick - w .release
 ticksOf Executing tick = 0
 
--- an admission books the wait of the task, as the session before the event has it, and its retries
+-- an admission books the wait of the task, as the session before the event has it, and the clash count and the retry count that it lists
 abbrev pub waitItem : List Task → ℕ → Admission → Item
-waitItem tasks tick a = wait (a .task) (ticksOf (getD tasks (a .task) noTask .state) tick) (a .retries)
+waitItem tasks tick a = wait (a .task) (ticksOf (getD tasks (a .task) noTask .state) tick) (a .clashes) (a .retries)
 
 -- the first k admissions of a list
 unfoldable pub waitItems : List Task → ℕ → List Admission → ℕ → List Item

@@ -8,33 +8,37 @@ use Rattle.objects.specs.Below.{one, sum}
 use Rattle.report.specs.declared.Figures.{Figures}
 
 -- 'transactions committed, how many of them had waited': a commit of a task, and whether that transaction had waited.
--- 'A wait and its retries are booked when the task is admitted': a task's wait, in ticks, and its retries.
+-- 'A wait and its retries are booked when the task is admitted': a task's wait, in ticks; and since request 2, where 'CR 1's total splits in two', its clash
+-- count and its retry count.
 pub data Item : Type 0 where
   commit : ℕ → Bool → Item
-  wait : ℕ → ℕ → ℕ → Item
+  wait : ℕ → ℕ → ℕ → ℕ → Item
 
 abbrev pub taskOf : Item → ℕ
 taskOf (commit i waited) = i
-taskOf (wait i ticks retries) = i
+taskOf (wait i ticks clashes retries) = i
 
 -- ---- a task's figures
 
 abbrev pub noFigures : Figures
-noFigures = record { committed = 0; waited = 0; retries = 0; longest = 0; ticks = 0; waits = 0 }
+noFigures = record { committed = 0; waited = 0; clashes = 0; retries = 0; longest = 0; ticks = 0; waits = 0 }
 
--- 'transactions committed, how many of them had waited, total retries, longest wait in ticks, and mean wait as two whole numbers, ticks and waits'
+-- 'transactions committed, how many of them had waited, total retries, longest wait in ticks, and mean wait as two whole numbers, ticks and waits'; the total
+-- retries 'splits in two', the clashes and the retries
 abbrev pub after : Figures → Item → Figures
 after f (commit i waited) = record {
   committed = f .committed + 1;
   waited = f .waited + one waited;
+  clashes = f .clashes;
   retries = f .retries;
   longest = f .longest;
   ticks = f .ticks;
   waits = f .waits;
 }
-after f (wait i ticks retries) = record {
+after f (wait i ticks clashes retries) = record {
   committed = f .committed;
   waited = f .waited;
+  clashes = f .clashes + clashes;
   retries = f .retries + retries;
   longest = max (f .longest) ticks;
   ticks = f .ticks + ticks;
@@ -48,7 +52,8 @@ within total = leb total 4294967295
 -- no total that the item adds to passes; the longest wait is no total
 abbrev pub fits : Figures → Item → Bool
 fits f (commit i waited) = within (f .committed + 1) && within (f .waited + one waited)
-fits f (wait i ticks retries) = within (f .retries + retries) && within (f .ticks + ticks) && within (f .waits + 1)
+fits f (wait i ticks clashes retries) =
+    within (f .clashes + clashes) && within (f .retries + retries) && within (f .ticks + ticks) && within (f .waits + 1)
 
 -- ---- the figures of all tasks
 
@@ -80,7 +85,7 @@ waitsBooked all = sum 64 (λ i. figuresAt all i .waits)
 unfoldable pub waitsIn : List Item → List ℕ
 waitsIn [] = []
 waitsIn (commit i waited ∷ more) = waitsIn more
-waitsIn (wait i ticks retries ∷ more) = ticks ∷ waitsIn more
+waitsIn (wait i ticks clashes retries ∷ more) = ticks ∷ waitsIn more
 
 -- 'wait i, from 0, goes to place i mod the lesser of 4,096 and its places, if any'
 abbrev pub placesOf : List ℕ → ℕ

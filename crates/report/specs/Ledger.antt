@@ -1,5 +1,6 @@
--- The report over the list of sessions: what their events book, and the figures over it. All of it is history's: a call holds the event and its answer, and no session,
--- no count and no figure. Lists of calls and of sessions have the latest first; what is booked stands in its order.
+-- The report over the list of sessions: what their events book, and the figures over it. All of it is history's: a call holds the event and its answer, and no
+-- session, no count and no figure; and whether a task ran is told by the calls and the setup of their session. Lists of calls and of sessions have the latest
+-- first; what is booked stands in its order.
 use Prim.Native.Nat.{ℕ, _+_, _-_, max}
 use mathlib.Core.List.{List, [], _∷_, _++_}
 use mathlib.Core.Bool.{Bool, true, false, cond, _&&_}
@@ -7,8 +8,9 @@ use lib.Dec.{eqb}
 use lib.ListN.{length, drop}
 use Rattle.objects.specs.Below.{one, all}
 use Rattle.rules.specs.declared.Setup.{Setup}
-use Rattle.rules.specs.Setup.{sameSetup}
-use Rattle.rules.specs.History.{Call, accepted, isCommit, isWait, releases, began, lasted, waitLength, passed}
+use Rattle.rules.specs.Ranking.{byPriority}
+use Rattle.rules.specs.Setup.{sameSetup, fresh}
+use Rattle.rules.specs.History.{Call, accepted, isCommit, isWait, releases, began, lasted, waitLength, passed, retried}
 use Rattle.report.specs.declared.Figures.{Figures}
 use Rattle.report.specs.Items.{Item, commit, wait, within}
 
@@ -26,15 +28,19 @@ commitsOf c before =
     let i = c .event .task in
     cond (accepted c && isCommit (c .event .kind)) (commit i (hadWaited i before) ∷ []) []
 
--- 'A wait and its retries are booked when the task is admitted': of each task that the last call admits, its wait and the clashing transactions that committed in it
-unfoldable pub waitsOf : List ℕ → List Call → List Item
-unfolding began lasted passed
-waitsOf [] calls = []
-waitsOf (i ∷ more) calls = wait i (waitLength i calls) (passed i calls) ∷ waitsOf more calls
+-- the wait of task i that the last call ends, in a session from this setup: its ticks, its clash count and its retry count
+abbrev pub waitBy : Setup → ℕ → List Call → Item
+waitBy u i calls = wait i (waitLength i calls) (passed i calls) (retried byPriority (fresh u) i calls)
 
-unfoldable pub booksOf : Call → List Call → List Item
+-- 'A wait and its retries are booked when the task is admitted': of each task that the last call admits
+unfoldable pub waitsOf : Setup → List ℕ → List Call → List Item
+unfolding began lasted passed retried byPriority fresh
+waitsOf u [] calls = []
+waitsOf u (i ∷ more) calls = waitBy u i calls ∷ waitsOf u more calls
+
+unfoldable pub booksOf : Setup → Call → List Call → List Item
 unfolding commitsOf waitsOf
-booksOf c before = commitsOf c before ++ waitsOf (c .admitted) (c ∷ before)
+booksOf u c before = commitsOf c before ++ waitsOf u (c .admitted) (c ∷ before)
 
 -- ---- the figures of a task, over what is booked
 
@@ -48,30 +54,36 @@ greatest f (x ∷ more) = max (f x) (greatest f more)
 
 abbrev pub commitIs : ℕ → Item → ℕ
 commitIs i (commit j waited) = one (eqb j i)
-commitIs i (wait j ticks retries) = 0
+commitIs i (wait j ticks clashes retries) = 0
 
 abbrev pub waitedIs : ℕ → Item → ℕ
 waitedIs i (commit j waited) = one (eqb j i && waited)
-waitedIs i (wait j ticks retries) = 0
+waitedIs i (wait j ticks clashes retries) = 0
+
+abbrev pub clashesIn : ℕ → Item → ℕ
+clashesIn i (commit j waited) = 0
+clashesIn i (wait j ticks clashes retries) = cond (eqb j i) clashes 0
 
 abbrev pub retriesIn : ℕ → Item → ℕ
 retriesIn i (commit j waited) = 0
-retriesIn i (wait j ticks retries) = cond (eqb j i) retries 0
+retriesIn i (wait j ticks clashes retries) = cond (eqb j i) retries 0
 
 abbrev pub ticksIn : ℕ → Item → ℕ
 ticksIn i (commit j waited) = 0
-ticksIn i (wait j ticks retries) = cond (eqb j i) ticks 0
+ticksIn i (wait j ticks clashes retries) = cond (eqb j i) ticks 0
 
 abbrev pub waitIs : ℕ → Item → ℕ
 waitIs i (commit j waited) = 0
-waitIs i (wait j ticks retries) = one (eqb j i)
+waitIs i (wait j ticks clashes retries) = one (eqb j i)
 
--- 'per task: transactions committed, how many of them had waited, total retries, longest wait in ticks, and mean wait as two whole numbers, ticks and waits'
+-- 'per task: transactions committed, how many of them had waited, total retries, longest wait in ticks, and mean wait as two whole numbers, ticks and waits'.
+-- Request 2: 'CR 1's total splits in two': all clashes, and all retries.
 unfoldable pub figuresOf : ℕ → List Item → Figures
 unfolding total greatest
 figuresOf i booked = record {
   committed = total (commitIs i) booked;
   waited = total (waitedIs i) booked;
+  clashes = total (clashesIn i) booked;
   retries = total (retriesIn i) booked;
   longest = greatest (ticksIn i) booked;
   ticks = total (ticksIn i) booked;
@@ -82,7 +94,8 @@ figuresOf i booked = record {
 
 -- '41, a total would pass 4,294,967,295': of any task
 abbrev pub totalsFit : Figures → Bool
-totalsFit f = within (f .committed) && within (f .waited) && within (f .retries) && within (f .ticks) && within (f .waits)
+totalsFit f =
+    within (f .committed) && within (f .waited) && within (f .clashes) && within (f .retries) && within (f .ticks) && within (f .waits)
 
 unfoldable pub fitting : List Item → Bool
 unfolding all figuresOf
@@ -93,11 +106,12 @@ unfoldable pub bookedWith : List Item → List Item → List Item
 unfolding fitting
 bookedWith booked new = cond (fitting (booked ++ new)) (booked ++ new) booked
 
--- the calls of a session, upon what was booked before it. 'one still open when its session ends is not booked': a session starts with no call before it.
-unfoldable pub bookedBy : List Item → List Call → List Item
+-- the calls of a session from this setup, upon what was booked before it. 'one still open when its session ends is not booked': a session starts with no call
+-- before it.
+unfoldable pub bookedBy : Setup → List Item → List Call → List Item
 unfolding bookedWith booksOf
-bookedBy booked [] = booked
-bookedBy booked (c ∷ before) = bookedWith (bookedBy booked before) (booksOf c before)
+bookedBy u booked [] = booked
+bookedBy u booked (c ∷ before) = bookedWith (bookedBy u booked before) (booksOf u c before)
 
 -- a session: its setup, and its events with their answers
 pub record Sitting : Type 0 where
@@ -108,7 +122,7 @@ pub record Sitting : Type 0 where
 unfoldable pub ledger : List Sitting → List Item
 unfolding bookedBy
 ledger [] = []
-ledger (s ∷ earlier) = bookedBy (ledger earlier) (s .calls)
+ledger (s ∷ earlier) = bookedBy (s .setup) (ledger earlier) (s .calls)
 
 -- 'The setup must be the same in all sessions, m too'
 unfoldable pub allSame : Setup → List Sitting → Bool

@@ -55,7 +55,7 @@ LeftOut =
     (u : Setup) (start : List ℕ) (t : Tally) (row : List ℕ) (o : OpenSession) (s : Sitting) (earlier : List Sitting)
     → Reported u start t row o (s ∷ earlier) → (e : Event)
     → let b = booking t o e .booked in
-    let new = booksOf (heardBy e b) (s .calls) in
+    let new = booksOf (s .setup) (heardBy e b) (s .calls) in
     b .number ≡ cond (eqb (number (b .said)) 0) (cond (fitting (ledger (s ∷ earlier) ++ new)) 0 41) (number (b .said))
 
 -- 'the wait at the middle and at nine tenths over the last k waits of all tasks in order of admission'

@@ -4,11 +4,12 @@ use rules::Said;
 use rules::Session;
 use rules::Setup;
 
-// The figures of one task: transactions committed, how many of them had waited, and of its waits that are booked the retries, the longest in ticks, the ticks of
-// all, and how many they are.
+// The figures of one task: transactions committed, how many of them had waited, and of its waits that are booked all clashes, all retries, the longest in
+// ticks, the ticks of all, and how many they are.
 pub struct Figures {
     pub committed: u32,
     pub waited: u32,
+    pub clashes: u32,
     pub retries: u32,
     pub longest: u32,
     pub ticks: u32,

@@ -59,6 +59,7 @@ entered-agree {figures} {booked} p (more {x = x} {xs = xs} l q) = rw (append-sno
 record Small (f : Figures) : Type 0 where
   committed : f .committed ≤ 4294967295
   waited : f .waited ≤ 4294967295
+  clashes : f .clashes ≤ 4294967295
   retries : f .retries ≤ 4294967295
   ticks : f .ticks ≤ 4294967295
   waits : f .waits ≤ 4294967295
@@ -68,16 +69,18 @@ split b k e = (and-left b (within k) e, leb-true k 4294967295 (and-right b (with
 
 small : (f : Figures) → totalsFit f ≡ true → Small f
 small f e =
-    let four = split (within (f .committed) && within (f .waited) && within (f .retries) && within (f .ticks)) (f .waits) e in
-    let three = split (within (f .committed) && within (f .waited) && within (f .retries)) (f .ticks) (four .0) in
-    let two = split (within (f .committed) && within (f .waited)) (f .retries) (three .0) in
+    let five = split (within (f .committed) && within (f .waited) && within (f .clashes) && within (f .retries) && within (f .ticks)) (f .waits) e in
+    let four = split (within (f .committed) && within (f .waited) && within (f .clashes) && within (f .retries)) (f .ticks) (five .0) in
+    let three = split (within (f .committed) && within (f .waited) && within (f .clashes)) (f .retries) (four .0) in
+    let two = split (within (f .committed) && within (f .waited)) (f .clashes) (three .0) in
     let first = split (within (f .committed)) (f .waited) (two .0) in
     record {
       committed = leb-true (f .committed) 4294967295 (first .0);
       waited = first .1;
-      retries = two .1;
-      ticks = three .1;
-      waits = four .1;
+      clashes = two .1;
+      retries = three .1;
+      ticks = four .1;
+      waits = five .1;
     }
 
 fit : (f : Figures) → Small f → totalsFit f ≡ true
@@ -85,6 +88,7 @@ fit f p =
     rw (
       le-leb (f .committed) 4294967295 (p .committed),
       le-leb (f .waited) 4294967295 (p .waited),
+      le-leb (f .clashes) 4294967295 (p .clashes),
       le-leb (f .retries) 4294967295 (p .retries),
       le-leb (f .ticks) 4294967295 (p .ticks),
       le-leb (f .waits) 4294967295 (p .waits),
@@ -94,12 +98,13 @@ fit f p =
 fits-after : (f : Figures) (x : Item) → Small f → fits f x ≡ totalsFit (after f x)
 fits-after f (commit i waited) p =
     rw (
+      le-leb (f .clashes) 4294967295 (p .clashes),
       le-leb (f .retries) 4294967295 (p .retries),
       le-leb (f .ticks) 4294967295 (p .ticks),
       le-leb (f .waits) 4294967295 (p .waits),
     )
     (simp and-true)
-fits-after f (wait i ticks retries) p =
+fits-after f (wait i ticks clashes retries) p =
     rw (le-leb (f .committed) 4294967295 (p .committed), le-leb (f .waited) 4294967295 (p .waited))
 
 -- what fits with more fits without
@@ -114,6 +119,7 @@ fitting-less xs ys e =
     fit f (record {
       committed = omega (arith, p .committed);
       waited = omega (arith, p .waited);
+      clashes = omega (arith, p .clashes);
       retries = omega (arith, p .retries);
       ticks = omega (arith, p .ticks);
       waits = omega (arith, p .waits);

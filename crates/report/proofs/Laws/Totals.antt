@@ -8,7 +8,7 @@ use native.Mathlib.Omega.{arith}
 use borrow.Author.Tests.{eq-eqb, ne-eqb}
 use Rattle.report.specs.declared.Figures.{Figures}
 use Rattle.report.specs.Items.{Item, commit, wait, taskOf, after}
-use Rattle.report.specs.Ledger.{total, greatest, commitIs, waitedIs, retriesIn, ticksIn, waitIs, figuresOf}
+use Rattle.report.specs.Ledger.{total, greatest, commitIs, waitedIs, clashesIn, retriesIn, ticksIn, waitIs, figuresOf}
 
 pub total-append : (f : Item → ℕ) (xs ys : List Item) → total f (xs ++ ys) ≡ total f xs + total f ys
 unfolding total
@@ -24,6 +24,7 @@ abbrev pub added : Figures → Figures → Figures
 added f g = record {
   committed = f .committed + g .committed;
   waited = f .waited + g .waited;
+  clashes = f .clashes + g .clashes;
   retries = f .retries + g .retries;
   longest = max (f .longest) (g .longest);
   ticks = f .ticks + g .ticks;
@@ -36,6 +37,7 @@ figures-append i xs ys =
     rw (
       total-append (commitIs i) xs ys,
       total-append (waitedIs i) xs ys,
+      total-append (clashesIn i) xs ys,
       total-append (retriesIn i) xs ys,
       greatest-append (ticksIn i) xs ys,
       total-append (ticksIn i) xs ys,
@@ -46,12 +48,12 @@ figures-append i xs ys =
 one-own : (f : Figures) (x : Item) → added f (figuresOf (taskOf x) (x ∷ [])) ≡ after f x
 unfolding figuresOf total greatest
 one-own f (commit i waited) = rw (eq-eqb i i refl) (simp (add-zero, max-zero))
-one-own f (wait i ticks retries) = rw (eq-eqb i i refl) (simp (add-zero, max-zero))
+one-own f (wait i ticks clashes retries) = rw (eq-eqb i i refl) (simp (add-zero, max-zero))
 
 one-other : (i : ℕ) (f : Figures) (x : Item) → taskOf x ≢ i → added f (figuresOf i (x ∷ [])) ≡ f
 unfolding figuresOf total greatest
 one-other i f (commit j waited) d = rw (ne-eqb j i d) (simp (add-zero, max-zero))
-one-other i f (wait j ticks retries) d = rw (ne-eqb j i d) (simp (add-zero, max-zero))
+one-other i f (wait j ticks clashes retries) d = rw (ne-eqb j i d) (simp (add-zero, max-zero))
 
 pub figures-own : (xs : List Item) (x : Item) → figuresOf (taskOf x) (xs ++ (x ∷ [])) ≡ after (figuresOf (taskOf x) xs) x
 figures-own xs x = figures-append (taskOf x) xs (x ∷ []) ∙ one-own (figuresOf (taskOf x) xs) x

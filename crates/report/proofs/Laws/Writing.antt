@@ -20,7 +20,7 @@ pub waits-append : (xs ys : List Item) → waitsIn (xs ++ ys) ≡ waitsIn xs ++ 
 unfolding waitsIn
 waits-append [] ys = refl
 waits-append (commit i waited ∷ xs) ys = waits-append xs ys
-waits-append (wait i ticks retries ∷ xs) ys = ap (λ (more : List ℕ). ticks ∷ more) (waits-append xs ys)
+waits-append (wait i ticks clashes retries ∷ xs) ys = ap (λ (more : List ℕ). ticks ∷ more) (waits-append xs ys)
 
 pub written-append : (row : List ℕ) (i : ℕ) (ws vs : List ℕ) → written row i (ws ++ vs) ≡ written (written row i ws) (i + length ws) vs
 unfolding written
@@ -46,7 +46,7 @@ unfolding total waitsIn
 waits-summed none = sum-zero 64 (λ i. 0) (λ i l. refl)
 waits-summed (more {x = commit j waited} {xs = xs} l p) =
     omega (arith, sum-add 64 (λ i. 0) (λ i. total (waitIs i) xs), sum-zero 64 (λ i. 0) (λ i m. refl), waits-summed p)
-waits-summed (more {x = wait j ticks retries} {xs = xs} l p) =
+waits-summed (more {x = wait j ticks clashes retries} {xs = xs} l p) =
     omega (arith, sum-add 64 (λ i. one (eqb j i)) (λ i. total (waitIs i) xs), one-has 64 j l, waits-summed p)
 
 -- the figures have as many waits as are booked

@@ -5,7 +5,7 @@ use lib.ListN.{getD}
 use Rattle.rules.specs.declared.Said.{Said}
 use Rattle.rules.specs.declared.Admissions.{Admissions}
 use Rattle.rules.specs.Answers.{number}
-use Rattle.rules.specs.History.{noAdmission}
+use Rattle.rules.specs.Scan.{noAdmission}
 use Rattle.report.specs.declared.Figures.{Figures}
 use Rattle.tally.specs.declared.item.Sum.{Sum}
 use Rattle.tally.specs.declared.item.Counted.{Counted}

@@ -161,7 +161,7 @@ pub(crate) fn enter_waits(
         let t = tasks[i];
         let state = t.state;
         let f = figures[i];
-        let x = with_wait(f, ticks_of(state, tick), a.retries);
+        let x = with_wait(f, ticks_of(state, tick), a.clashes, a.retries);
         if !x.fits {
             return Entered {
                 fits: false,

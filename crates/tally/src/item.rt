@@ -71,6 +71,7 @@ pub(crate) fn with_commit(f: Figures, waited: bool) -> Counted
         figures: Figures {
             committed: committed.total,
             waited: had_waited.total,
+            clashes: f.clashes,
             retries: f.retries,
             longest: f.longest,
             ticks: f.ticks,
@@ -79,10 +80,14 @@ pub(crate) fn with_commit(f: Figures, waited: bool) -> Counted
     }
 }
 
-// A wait of so many ticks, with its retries.
-pub(crate) fn with_wait(f: Figures, ticks: u32, retries: u32) -> Counted
-    ensures { λ c. ⌜ c ≡ counted f (wait 0 ticks retries) ⌝ }
+// A wait of so many ticks, with its clashes and its retries.
+pub(crate) fn with_wait(f: Figures, ticks: u32, clashes: u32, retries: u32) -> Counted
+    ensures { λ c. ⌜ c ≡ counted f (wait 0 ticks clashes retries) ⌝ }
 {
+    let all_clashes = add(f.clashes, clashes);
+    if !all_clashes.fits {
+        return refuse(f);
+    }
     let all_retries = add(f.retries, retries);
     if !all_retries.fits {
         return refuse(f);
@@ -100,6 +105,7 @@ pub(crate) fn with_wait(f: Figures, ticks: u32, retries: u32) -> Counted
         figures: Figures {
             committed: f.committed,
             waited: f.waited,
+            clashes: all_clashes.total,
             retries: all_retries.total,
             longest: longer(f.longest, ticks),
             ticks: all_ticks.total,

@@ -29,6 +29,7 @@ pub fn empty() -> Tally
     let none = Figures {
         committed: 0,
         waited: 0,
+        clashes: 0,
         retries: 0,
         longest: 0,
         ticks: 0,

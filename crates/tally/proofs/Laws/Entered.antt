@@ -9,7 +9,7 @@ use lib.ListN.{getD}
 use Rattle.objects.proofs.Laws.Below.{below-suc}
 use Rattle.rules.specs.declared.Task.{Task}
 use Rattle.rules.specs.declared.Admission.{Admission}
-use Rattle.rules.specs.History.{noAdmission}
+use Rattle.rules.specs.Scan.{noAdmission}
 use Rattle.report.specs.declared.Figures.{Figures}
 use Rattle.report.specs.Items.{Item, taskOf, figuresAt, fits, enter, entered, enterable}
 use Rattle.report.specs.Booking.{waitItem, waitItems}

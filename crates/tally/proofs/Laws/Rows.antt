@@ -8,7 +8,7 @@ use lib.ListN.{length, getD, set}
 use Rattle.rules.specs.declared.Task.{Task}
 use Rattle.rules.specs.declared.Admission.{Admission}
 use Rattle.rules.specs.Tasks.{noTask}
-use Rattle.rules.specs.History.{noAdmission}
+use Rattle.rules.specs.Scan.{noAdmission}
 use Rattle.report.specs.Items.{waitsIn, placesOf, putWait, written}
 use Rattle.report.specs.Booking.{ticksOf, waitItem, waitItems}
 use Rattle.report.proofs.Laws.Writing.{waits-append, written-append}

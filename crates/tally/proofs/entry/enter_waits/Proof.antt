@@ -9,7 +9,8 @@ use native.Mathlib.Omega.{arith}
 use lib.ListN.{length, length-set, getD, set}
 use borrow.Author.Needs.{needs}
 use borrow.Author.Tests.{not-true, not-false}
-use Rattle.rules.specs.History.{noAdmission}
+use Rattle.rules.specs.declared.Admission.{Admission}
+use Rattle.rules.specs.Scan.{noAdmission}
 use Rattle.report.specs.declared.Figures.{Figures}
 use Rattle.report.specs.Items.{Item, wait, fits, figuresAt, enter, entered, enterable}
 use Rattle.report.specs.Booking.{waitItem, waitItems}
@@ -90,16 +91,19 @@ module _ (c : tie.After-with-wait Inv-loop μ-loop) where
   abbrev waits : ℕ → List Item
   waits k = waitItems (start .args .t2) (start .args .tick) (start .args .t4 .list) k
 
+  abbrev a : Admission
+  a = getD (start .args .t4 .list) at noAdmission
+
   abbrev x : Item
-  x = waitItem (start .args .t2) (start .args .tick) (getD (start .args .t4 .list) at noAdmission)
+  x = waitItem (start .args .t2) (start .args .tick) a
 
   abbrev i : ℕ
-  i = getD (start .args .t4 .list) at noAdmission .task
+  i = a .task
 
   made : c .with-wait .result ≡ counted (figuresAt now i) x
   made =
       c .with-wait .ensures
-      ∙ ap (λ (ticks : ℕ). counted (figuresAt now i) (wait 0 ticks (getD (start .args .t4 .list) at noAdmission .retries))) (c .before .ticks-of .ensures)
+      ∙ ap (λ (ticks : ℕ). counted (figuresAt now i) (wait 0 ticks (a .clashes) (a .retries))) (c .before .ticks-of .ensures)
 
   more-fits : (b : Bool) → c .with-wait .result .fits ≡ b → enterable (start .args .t1) (waits (suc at)) ≡ b
   more-fits b q =

@@ -10,7 +10,7 @@ use lib.ListN.{length, length-set, getD, set}
 use borrow.Author.Needs.{needs}
 use borrow.Author.Tests.{eq-eqb, ne-eqb}
 use Rattle.rules.specs.Tasks.{noTask}
-use Rattle.rules.specs.History.{noAdmission}
+use Rattle.rules.specs.Scan.{noAdmission}
 use Rattle.report.specs.Items.{placesOf, waitsIn, putWait, written}
 use Rattle.report.specs.Booking.{ticksOf, waitItems}
 use Rattle.tally.proofs.Laws.Rows.{no-place, no-wait, one-more-wait}

@@ -17,7 +17,15 @@ use Rattle.tally.proofs.item.with_commit.Tie as tie
 abbrev grown : Figures → ℕ → ℕ → Counted
 grown f committed waited = record {
   fits = true;
-  figures = record { committed = committed; waited = waited; retries = f .retries; longest = f .longest; ticks = f .ticks; waits = f .waits };
+  figures = record {
+    committed = committed;
+    waited = waited;
+    clashes = f .clashes;
+    retries = f .retries;
+    longest = f .longest;
+    ticks = f .ticks;
+    waits = f .waits;
+  };
 }
 
 add-requires : tie.Need-add-requires

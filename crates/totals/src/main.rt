@@ -1,8 +1,12 @@
 // Totals at their largest: each total of the report brought to 4,294,967,295, and one past it, with tally and row seen unchanged.
 //
-// The events are those of document 01's session. At tick 7 task 2 commits, and that admits task 1, which has waited 4 ticks with 2 retries; at tick 8 task 1 commits.
-// So task 2's commits grow by 1 at tick 7, task 1's retries by 2, its ticks by 4 and its waits by 1; and at tick 8 its commits that had waited by 1. A line says which
-// total, its value after the event, the number answered, and whether tally and row are the same as before.
+// The events are those of document 01's session. At tick 7 task 2 commits, and that admits task 1, which has waited 4 ticks with 2 clashes; at tick 8 task 1
+// commits. So task 2's commits grow by 1 at tick 7, task 1's clashes by 2, its ticks by 4 and its waits by 1; and at tick 8 its commits that had waited by 1.
+//
+// On 01's two processors task 1 never ran while it waited: just before task 0's commit at tick 6 two tasks execute, and just before task 2's at tick 7 one
+// executes and one is plain. On three processors these two are fewer than m, both times, and all else goes as before; so there its retries grow by 2.
+//
+// A line says which total, its value after the event, the number answered, and whether tally and row are the same as before.
 use libc::STDOUT_FILENO;
 use report::Figures;
 use report::OpenSession;
@@ -12,8 +16,8 @@ use rules::Kind;
 use rules::Setup;
 use rules::Terms;
 
-// 01's setup: two processors, and priorities 10, 30, 20, periods 100, 50, 80, transactions 2, 1, 1.
-fn session_setup() -> Setup {
+// 01's setup, on m processors: priorities 10, 30, 20, periods 100, 50, 80, transactions 2, 1, 1.
+fn session_setup(m: u8) -> Setup {
     let none = Terms {
         priority: 0,
         period: 0,
@@ -36,7 +40,7 @@ fn session_setup() -> Setup {
         transactions: 1,
     };
     Setup {
-        m: 2,
+        m: m,
         n: 3,
         terms: terms,
     }
@@ -71,6 +75,7 @@ fn event_at(tick: u32) -> Event {
 enum Total {
     Committed,
     Waited,
+    Clashes,
     Retries,
     Ticks,
     Waits,
@@ -80,6 +85,7 @@ fn value_of(f: Figures, which: Total) -> u32 {
     match which {
         Total::Committed => f.committed,
         Total::Waited => f.waited,
+        Total::Clashes => f.clashes,
         Total::Retries => f.retries,
         Total::Ticks => f.ticks,
         Total::Waits => f.waits,
@@ -91,6 +97,7 @@ fn figures_with(which: Total, value: u32) -> Figures {
     let mut f = Figures {
         committed: 0,
         waited: 0,
+        clashes: 0,
         retries: 0,
         longest: 0,
         ticks: 0,
@@ -102,6 +109,9 @@ fn figures_with(which: Total, value: u32) -> Figures {
         }
         Total::Waited => {
             f.waited = value;
+        }
+        Total::Clashes => {
+            f.clashes = value;
         }
         Total::Retries => {
             f.retries = value;
@@ -119,6 +129,7 @@ fn figures_with(which: Total, value: u32) -> Figures {
 fn same_figures(a: Figures, b: Figures) -> bool {
     a.committed == b.committed
         && a.waited == b.waited
+        && a.clashes == b.clashes
         && a.retries == b.retries
         && a.longest == b.longest
         && a.ticks == b.ticks
@@ -159,9 +170,9 @@ struct Place {
     after: OpenSession,
 }
 
-// The session's events before a tick, booked.
-fn up_to(t: Tally, tick: u32, row: &mut [u32]) -> Place {
-    let opened = tally::opening(t, session_setup());
+// The session's events before a tick, on m processors, booked.
+fn up_to(t: Tally, m: u8, tick: u32, row: &mut [u32]) -> Place {
+    let opened = tally::opening(t, session_setup(m));
     let mut now = opened.tally;
     let answer = opened.opened;
     let mut after = answer.after;
@@ -177,15 +188,15 @@ fn up_to(t: Tally, tick: u32, row: &mut [u32]) -> Place {
     }
 }
 
-// Books the event at a tick into a tally in which one total of a task has a value.
-fn try_total(name: &[u8], which: Total, task: usize, value: u32, tick: u32) {
+// Books the event at a tick of the session on m processors into a tally in which one total of a task has a value.
+fn try_total(name: &[u8], which: Total, task: usize, value: u32, m: u8, tick: u32) {
     let mut t = tally::empty();
     if task < 64 {
         let f = figures_with(which, value);
         t.figures[task] = f;
     }
     let mut row = [9u32; 8];
-    let place = up_to(t, tick, &mut row);
+    let place = up_to(t, m, tick, &mut row);
     let before = place.tally;
     let after = place.after;
     let row_before = row;
@@ -211,14 +222,16 @@ fn try_total(name: &[u8], which: Total, task: usize, value: u32, tick: u32) {
 }
 
 fn main() {
-    try_total(b"committed ", Total::Committed, 2, 4294967294, 7);
-    try_total(b"committed ", Total::Committed, 2, 4294967295, 7);
-    try_total(b"waited ", Total::Waited, 1, 4294967294, 8);
-    try_total(b"waited ", Total::Waited, 1, 4294967295, 8);
-    try_total(b"retries ", Total::Retries, 1, 4294967293, 7);
-    try_total(b"retries ", Total::Retries, 1, 4294967294, 7);
-    try_total(b"ticks ", Total::Ticks, 1, 4294967291, 7);
-    try_total(b"ticks ", Total::Ticks, 1, 4294967292, 7);
-    try_total(b"waits ", Total::Waits, 1, 4294967294, 7);
-    try_total(b"waits ", Total::Waits, 1, 4294967295, 7);
+    try_total(b"committed ", Total::Committed, 2, 4294967294, 2, 7);
+    try_total(b"committed ", Total::Committed, 2, 4294967295, 2, 7);
+    try_total(b"waited ", Total::Waited, 1, 4294967294, 2, 8);
+    try_total(b"waited ", Total::Waited, 1, 4294967295, 2, 8);
+    try_total(b"clashes ", Total::Clashes, 1, 4294967293, 2, 7);
+    try_total(b"clashes ", Total::Clashes, 1, 4294967294, 2, 7);
+    try_total(b"retries ", Total::Retries, 1, 4294967293, 3, 7);
+    try_total(b"retries ", Total::Retries, 1, 4294967294, 3, 7);
+    try_total(b"ticks ", Total::Ticks, 1, 4294967291, 2, 7);
+    try_total(b"ticks ", Total::Ticks, 1, 4294967292, 2, 7);
+    try_total(b"waits ", Total::Waits, 1, 4294967294, 2, 7);
+    try_total(b"waits ", Total::Waits, 1, 4294967295, 2, 7);
 }

@@ -8,10 +8,10 @@ use Rattle.totals.proofs.up_to.Statement.{statement}
 use Rattle.totals.proofs.up_to.Tie as tie
 
 abbrev Inv-loop : tie.InvT-loop
-Inv-loop tick row₀ now₀ after₀ k₀ row now after k = (length row ≡ length row₀) × (tick < 4294967296)
+Inv-loop m tick row₀ now₀ after₀ k₀ row now after k = (length row ≡ length row₀) × (tick < 4294967296)
 
 abbrev μ-loop : tie.MeasureT-loop
-μ-loop tick row₀ now₀ after₀ k₀ row now after k = tick - k
+μ-loop m tick row₀ now₀ after₀ k₀ row now after k = tick - k
 
 session-setup-requires : tie.Need-session-setup-requires Inv-loop μ-loop
 session-setup-requires c κs = search needs

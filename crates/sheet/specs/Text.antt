@@ -27,12 +27,14 @@ mostWord = 109 ∷ 111 ∷ 115 ∷ 116 ∷ []
 abbrev pub leftWord : List ℕ
 leftWord = 108 ∷ 101 ∷ 102 ∷ 116 ∷ []
 
--- 'task', 'committed', 'waited', 'retries', 'longest', 'ticks', 'waits': what stands in a row
+-- 'task', 'committed', 'waited', 'clashes', 'retries', 'longest', 'ticks', 'waits': what stands in a row. Request 2: 'CR 1's total splits in two',
+-- the clashes before the retries, as on the admit line.
 abbrev pub columns : List (List ℕ)
 columns =
     (116 ∷ 97 ∷ 115 ∷ 107 ∷ [])
     ∷ (99 ∷ 111 ∷ 109 ∷ 109 ∷ 105 ∷ 116 ∷ 116 ∷ 101 ∷ 100 ∷ [])
     ∷ (119 ∷ 97 ∷ 105 ∷ 116 ∷ 101 ∷ 100 ∷ [])
+    ∷ (99 ∷ 108 ∷ 97 ∷ 115 ∷ 104 ∷ 101 ∷ 115 ∷ [])
     ∷ (114 ∷ 101 ∷ 116 ∷ 114 ∷ 105 ∷ 101 ∷ 115 ∷ [])
     ∷ (108 ∷ 111 ∷ 110 ∷ 103 ∷ 101 ∷ 115 ∷ 116 ∷ [])
     ∷ (116 ∷ 105 ∷ 99 ∷ 107 ∷ 115 ∷ [])
@@ -58,7 +60,7 @@ namedText name n = joined (name ∷ decimal n ∷ [])
 
 -- a task's figures, in the order of the columns, and the row of a task
 abbrev pub figuresIn : Figures → List ℕ
-figuresIn f = f .committed ∷ f .waited ∷ f .retries ∷ f .longest ∷ f .ticks ∷ f .waits ∷ []
+figuresIn f = f .committed ∷ f .waited ∷ f .clashes ∷ f .retries ∷ f .longest ∷ f .ticks ∷ f .waits ∷ []
 
 unfoldable pub rowText : ℕ → Figures → List ℕ
 unfolding joined decimals

@@ -64,23 +64,24 @@ fn named(line: &mut [u8], at: usize, name: &[u8], n: u64) -> usize
 
 // The figures of a task, in the order of the columns, with a space before each.
 fn figures(line: &mut [u8], at: usize, f: Figures) -> usize
-    requires { ⌜ at + 76 ≤ length (now line) ⌝ }
+    requires { ⌜ at + 87 ≤ length (now line) ⌝ }
     ensures is { λ next. ⌜ Follows (now (line .entry)) at (spacedText (figuresIn f)) (now (line .exit)) next ⌝ }
-    ensures reaches { λ next. ⌜ next ≤ at + 66 ⌝ }
+    ensures reaches { λ next. ⌜ next ≤ at + 77 ⌝ }
 {
     let a = spaced(line, at, f.committed);
     let b = spaced(line, a, f.waited);
-    let c = spaced(line, b, f.retries);
-    let d = spaced(line, c, f.longest);
-    let e = spaced(line, d, f.ticks);
-    spaced(line, e, f.waits)
+    let c = spaced(line, b, f.clashes);
+    let d = spaced(line, c, f.retries);
+    let e = spaced(line, d, f.longest);
+    let g = spaced(line, e, f.ticks);
+    spaced(line, g, f.waits)
 }
 
 // The row of a task.
 fn row(line: &mut [u8], at: usize, i: u32, f: Figures) -> usize
-    requires { ⌜ at + 86 ≤ length (now line) ⌝ }
+    requires { ⌜ at + 97 ≤ length (now line) ⌝ }
     ensures is { λ next. ⌜ Follows (now (line .entry)) at (rowText i f) (now (line .exit)) next ⌝ }
-    ensures reaches { λ next. ⌜ next ≤ at + 77 ⌝ }
+    ensures reaches { λ next. ⌜ next ≤ at + 88 ⌝ }
 {
     let a = number(line, at, i as u64);
     let b = figures(line, a, f);
@@ -89,9 +90,9 @@ fn row(line: &mut [u8], at: usize, i: u32, f: Figures) -> usize
 
 // The rows of the first n tasks.
 fn rows(line: &mut [u8], at: usize, all: [Figures; 64], n: usize) -> usize
-    requires { ⌜ (n ≤ 64) × (at + 4937 ≤ length (now line)) ⌝ }
+    requires { ⌜ (n ≤ 64) × (at + 5641 ≤ length (now line)) ⌝ }
     ensures is { λ next. ⌜ Follows (now (line .entry)) at (rowsText n all) (now (line .exit)) next ⌝ }
-    ensures reaches { λ next. ⌜ next ≤ at + 77 * n ⌝ }
+    ensures reaches { λ next. ⌜ next ≤ at + 88 * n ⌝ }
 {
     let mut next = at;
     for i in 0..n {
@@ -134,15 +135,15 @@ fn most_line(line: &mut [u8], at: usize, all: [Figures; 64], n: usize) -> usize
 
 // The lines up to the last row.
 fn head(line: &mut [u8], logs: u32, all: [Figures; 64], n: usize) -> usize
-    requires { ⌜ (n ≤ 64) × (5120 ≤ length (now line)) ⌝ }
+    requires { ⌜ (n ≤ 64) × (6144 ≤ length (now line)) ⌝ }
     ensures is { λ next. ⌜ Follows (now (line .entry)) 0 (headText logs n all) (now (line .exit)) next ⌝ }
-    ensures reaches { λ next. ⌜ next ≤ 5004 ⌝ }
+    ensures reaches { λ next. ⌜ next ≤ 5716 ⌝ }
 {
     let a = named(line, 0, b"logs ", logs as u64);
     let b = word(
         line,
         a,
-        b"task committed waited retries longest ticks waits\n",
+        b"task committed waited clashes retries longest ticks waits\n",
     );
     rows(line, b, all, n)
 }
@@ -176,9 +177,9 @@ fn rows_of(n: u8) -> usize
 
 // The whole sheet.
 pub(crate) fn sheet_text(line: &mut [u8], logs: u32, t: Tally, row: &[u32], left: u64) -> usize
-    requires { ⌜ 6144 ≤ length (now line) ⌝ }
+    requires { ⌜ 6656 ≤ length (now line) ⌝ }
     ensures is { λ next. ⌜ Follows (now (line .entry)) 0 (sheetText logs t (now (row .entry)) left) (now (line .exit)) next ⌝ }
-    ensures reaches { λ next. ⌜ next ≤ 6144 ⌝ }
+    ensures reaches { λ next. ⌜ next ≤ 6656 ⌝ }
 {
     let all = t.figures;
     let n = rows_of(t.setup.n);

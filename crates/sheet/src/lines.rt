@@ -14,7 +14,7 @@ pub fn sheet(buf: &mut [u8], at: usize, logs: u32, t: Tally, row: &[u32], left: 
     ensures says { λ r. ⌜ r ≡ wrote (now (buf .entry)) at (sheetText logs t (now (row .entry)) left) ⌝ }
     ensures leaves { λ r. ⌜ now (buf .exit) ≡ bufferAfter (now (buf .entry)) at (sheetText logs t (now (row .entry)) left) ⌝ }
 {
-    let mut line = [0u8; 6144];
+    let mut line = [0u8; 6656];
     let size = sheet_text(&mut line, logs, t, row, left);
     put_word(buf, at, &line[..size])
 }

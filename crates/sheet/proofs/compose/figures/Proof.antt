@@ -1,4 +1,4 @@
--- `sheet::compose::figures` meets its contract: six numbers of at most ten digits, with a space before each.
+-- `sheet::compose::figures` meets its contract: seven numbers of at most ten digits, with a space before each.
 -- Assumes nothing.
 use mathlib.Core.List.{_∷_, append-nil}
 use mathlib.Core.Path.{sym}
@@ -27,22 +27,27 @@ spaced-requires-5 c κs = omega arith
 spaced-requires-6 : tie.Need-spaced-requires-6
 spaced-requires-6 c κs = omega arith
 
+spaced-requires-7 : tie.Need-spaced-requires-7
+spaced-requires-7 c κs = omega arith
+
 same-length : tie.Need-same-length
 same-length c = omega arith
 
 returns : tie.Need-returns
 unfolding spacedText
 returns c =
-    let a = c .before .before .before .before .before .before .before .before .before .before .before .before .before .before .before .before .before .before .before .before .before .before .spaced .ensures in
-    let b = c .before .before .before .before .before .before .before .before .before .before .before .before .before .before .before .before .before .before .spaced2 .ensures in
-    let d = c .before .before .before .before .before .before .before .before .before .before .before .before .before .before .spaced3 .ensures in
-    let e = c .before .before .before .before .before .before .before .before .before .before .spaced4 .ensures in
-    let f = c .before .before .before .before .before .before .spaced5 .ensures in
-    let g = c .before .before .spaced6 .ensures in
-    let last = follows-as (g .0) (sym (append-nil (32 ∷ decimal (c .before .before .before .before .before .before .before .before .before .before .before .before .before .before .before .before .before .before .before .before .before .before .before .before .before .args .f .waits)))) in (
-      follows-more (a .0) (follows-more (b .0) (follows-more (d .0) (follows-more (e .0) (follows-more (f .0) last)))),
-      omega (arith, a .1, b .1, d .1, e .1, f .1, g .1),
-    )
+    let seventh = c .before .before in
+    let sixth = seventh .before .before .before .before in
+    let fifth = sixth .before .before .before .before in
+    let fourth = fifth .before .before .before .before in
+    let third = fourth .before .before .before .before in
+    let second = third .before .before .before .before in
+    let first = second .before .before .before .before in
+    let waits = first .before .before .before .args .f .waits in
+    let last = follows-as (seventh .spaced7 .ensures .0) (sym (append-nil (32 ∷ decimal waits))) in
+    let ends = follows-more (fifth .spaced5 .ensures .0) (follows-more (sixth .spaced6 .ensures .0) last) in
+    let goes-on = follows-more (third .spaced3 .ensures .0) (follows-more (fourth .spaced4 .ensures .0) ends) in
+    (follows-more (first .spaced .ensures .0) (follows-more (second .spaced2 .ensures .0) goes-on), omega arith)
 
 pub figures-spec : {M : Type 1} → statement M
 figures-spec =
@@ -54,5 +59,6 @@ figures-spec =
     spaced-requires-4
     spaced-requires-5
     spaced-requires-6
+    spaced-requires-7
     same-length
     returns)

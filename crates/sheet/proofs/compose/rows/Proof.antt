@@ -1,4 +1,4 @@
--- `sheet::compose::rows` meets its contract. The loop's invariant: the rows of the tasks passed stand, each of at most 77 bytes. The measure is how many are left.
+-- `sheet::compose::rows` meets its contract. The loop's invariant: the rows of the tasks passed stand, each of at most 88 bytes. The measure is how many are left.
 -- Assumes nothing.
 use Prim.Native.Nat.{ℕ, _+_, _*_, _-_, _≤_}
 use mathlib.Core.Path.{_≡_, refl, sym, ap}
@@ -13,7 +13,7 @@ use Rattle.sheet.proofs.compose.rows.Statement.{statement}
 use Rattle.sheet.proofs.compose.rows.Tie as tie
 
 abbrev Inv-loop : tie.InvT-loop
-Inv-loop line₀ at n all next₀ i₀ line next i = (i ≤ n) × (length line ≡ length line₀) × (next ≤ at + 77 * i) × Follows line₀ at (rowsText i all) line next
+Inv-loop line₀ at n all next₀ i₀ line next i = (i ≤ n) × (length line ≡ length line₀) × (next ≤ at + 88 * i) × Follows line₀ at (rowsText i all) line next
 
 abbrev μ-loop : tie.MeasureT-loop
 μ-loop line₀ at n all next₀ i₀ line next i = n - i

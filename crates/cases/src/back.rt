@@ -14,12 +14,12 @@ fn same(a: &[u8], b: &[u8]) -> bool {
 // 28: past the buffer, at its end, and with one byte too few; no byte is changed.
 pub(crate) fn no_room() {
     let mut buf = [7u8; 8];
-    print::wrote(log::write_end(&mut buf, 9, 0));
-    print::wrote(log::write_end(&mut buf, 8, 0));
-    print::wrote(log::write_end(&mut buf, 1, 0));
-    print::wrote(log::write_end(&mut buf, 18446744073709551615, 0));
+    print::wrote(writing::write_end(&mut buf, 9, 0));
+    print::wrote(writing::write_end(&mut buf, 8, 0));
+    print::wrote(writing::write_end(&mut buf, 1, 0));
+    print::wrote(writing::write_end(&mut buf, 18446744073709551615, 0));
     print::same(same(&buf, b"\x07\x07\x07\x07\x07\x07\x07\x07"));
-    print::wrote(log::write_end(&mut buf, 0, 258));
+    print::wrote(writing::write_end(&mut buf, 0, 258));
     print::same(same(&buf, b"\x04\x00\x06\x00\x02\x01\x00\x00"));
 }
 
@@ -38,11 +38,11 @@ fn setup(m: u8, n: u8, priority: u16, period: u32) -> Setup {
 // 10 to 13 come before 28, and no byte is changed.
 pub(crate) fn bad_setups() {
     let mut buf = [7u8; 4];
-    print::wrote(log::write_setup(&mut buf, 0, setup(0, 1, 1, 1)));
-    print::wrote(log::write_setup(&mut buf, 0, setup(1, 65, 1, 1)));
-    print::wrote(log::write_setup(&mut buf, 0, setup(1, 1, 0, 1)));
-    print::wrote(log::write_setup(&mut buf, 0, setup(1, 1, 1, 0)));
-    print::wrote(log::write_setup(&mut buf, 0, setup(1, 1, 1, 1)));
+    print::wrote(writing::write_setup(&mut buf, 0, setup(0, 1, 1, 1)));
+    print::wrote(writing::write_setup(&mut buf, 0, setup(1, 65, 1, 1)));
+    print::wrote(writing::write_setup(&mut buf, 0, setup(1, 1, 0, 1)));
+    print::wrote(writing::write_setup(&mut buf, 0, setup(1, 1, 1, 0)));
+    print::wrote(writing::write_setup(&mut buf, 0, setup(1, 1, 1, 1)));
     print::same(same(&buf, b"\x07\x07\x07\x07"));
 }
 
@@ -60,7 +60,7 @@ fn event(kind: Kind) -> Event {
 fn event_back(kind: Kind) {
     let mut buf = [0u8; 80];
     let mut again = [0u8; 80];
-    print::wrote(log::write_event(&mut buf, 3, event(kind)));
+    print::wrote(writing::write_event(&mut buf, 3, event(kind)));
     let found = log::read(&buf, 3);
     print::found(found);
     let Found::Record {
@@ -72,7 +72,7 @@ fn event_back(kind: Kind) {
         return;
     };
     let e = log::event_of(number, log::body(&buf, 3));
-    print::wrote(log::write_event(&mut again, 3, e));
+    print::wrote(writing::write_event(&mut again, 3, e));
     print::same(same(&buf, &again));
 }
 
@@ -80,11 +80,11 @@ fn setup_back() {
     let mut buf = [0u8; 80];
     let mut again = [0u8; 80];
     let u = setup(2, 3, 513, 86400000);
-    print::wrote(log::write_setup(&mut buf, 1, u));
+    print::wrote(writing::write_setup(&mut buf, 1, u));
     print::found(log::read(&buf, 1));
     let back = log::setup_of(log::body(&buf, 1));
     print::same(setup::same_setup(u, back));
-    print::wrote(log::write_setup(&mut again, 1, back));
+    print::wrote(writing::write_setup(&mut again, 1, back));
     print::same(same(&buf, &again));
 }
 
@@ -95,7 +95,7 @@ pub(crate) fn each_kind() {
     event_back(Kind::Commit);
     event_back(Kind::Finish);
     let mut buf = [0u8; 80];
-    print::wrote(log::write_end(&mut buf, 0, 4294967295));
+    print::wrote(writing::write_end(&mut buf, 0, 4294967295));
     print::found(log::read(&buf, 0));
     print::text(b"count");
     print::then(log::count_of(log::body(&buf, 0)) as u64);

@@ -2,13 +2,13 @@
 use libc::STDOUT_FILENO;
 use log::Found;
 use log::Step;
-use log::Wrote;
 use rules::Answer;
 use rules::Event;
 use rules::Said;
 use rules::Setup;
 use rules::Summed;
 use text::Put;
+use writing::Wrote;
 
 pub(crate) fn text(bytes: &[u8]) {
     io::write_all(STDOUT_FILENO, bytes);

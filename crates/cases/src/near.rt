@@ -1,6 +1,6 @@
-// How near the sum a clash count comes. While task 0 waits the others commit as often as they can: the job that was there when the wait began, one that arrives on its
-// first tick, and one a period after each, the last on its last tick. Tasks with no transactions stay plain above task 0, so that it has no room meanwhile, and never runs: with one that executes they are
-// more than m, and the retry count is 0.
+// How near the sum a clash count comes. While task 0 waits the others commit as often as they can: the job that was there when the wait began, one that arrives on
+// its first tick, and one a period after each, the last on its last tick. Tasks with no transactions stay plain above task 0, so that it has no room meanwhile, and
+// never runs: with one that executes they are more than m, and the retry count is 0.
 use crate::event;
 use crate::go;
 use crate::print;
@@ -11,8 +11,8 @@ use rules::Event;
 use rules::Kind;
 use rules::Session;
 
-// Arrivals on both ends: a wait of 10 ticks beside a task of period 10 with one transaction a job. The clash count is 3 and so is the sum, 1 × (⌊10/10⌋ + 2); the paper's form
-// ⌈10/10⌉ + 1 is 2. Object 5 is 32.
+// Arrivals on both ends: a wait of 10 ticks beside a task of period 10 with one transaction a job. The clash count is 3 and so is the sum, 1 × (⌊10/10⌋ + 2); the
+// paper's form ⌈10/10⌉ + 1 is 2. Object 5 is 32.
 pub(crate) fn both_ends() {
     let idle = terms_of(20, 1000, 0);
     let u = setup_of(
@@ -110,8 +110,9 @@ fn jobs_of_the_wait(waiting: Session) -> Session {
     job(s, 45, 1, 2)
 }
 
-// Three tasks at once: periods 5, 7 and 12, with 2, 3 and 1 transactions a job, over a wait of 25 ticks. The jobs that were there commit 2 + 3 + 1; those that arrive in
-// the wait 6 × 2 + 4 × 3 + 3 × 1. The clash count is 33 and so is the sum, 2 × (5 + 2) + 3 × (3 + 2) + 1 × (2 + 2); the paper's form is 2 × (5 + 1) + 3 × (4 + 1) + 1 × (3 + 1) = 31.
+// Three tasks at once: periods 5, 7 and 12, with 2, 3 and 1 transactions a job, over a wait of 25 ticks. The jobs that were there commit 2 + 3 + 1; those that
+// arrive in the wait 6 × 2 + 4 × 3 + 3 × 1. The clash count is 33 and so is the sum, 2 × (5 + 2) + 3 × (3 + 2) + 1 × (2 + 2); the paper's form is 2 × (5 + 1) + 3 ×
+// (4 + 1) + 1 × (3 + 1) = 31.
 pub(crate) fn three_tasks() {
     let mut u = setup_of(
         4,

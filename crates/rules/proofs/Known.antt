@@ -1,5 +1,5 @@
--- What is known at every place of a run: the session is sound, it is of the start's m and n, history says what it says, and while task i waits every task's commits and arrivals are within their
--- bounds. A start has it and every call keeps it.
+-- What is known at every place of a run: the session is sound, it is of the start's m and n, history says what it says, and while task i waits every task's commits
+-- and arrivals are within their bounds. A start has it and every call keeps it.
 use Prim.Native.Nat.{ℕ, _+_, _≤_, _<_, zero-le}
 use mathlib.Core.Path.{_≡_, refl, sym, ap, ap₂, subst, _∙_}
 use mathlib.Core.Logic.{inl, inr, _≢_}

@@ -1,5 +1,5 @@
--- The theorems of the rules, and the laws that they share. Demand 3 is read in this order: Moves (what an event does, task by task), Ran (who ran, by history), Told (history follows it), Jobs (how
--- often a task can commit), Known (what is known at every place of a run), Demand3.
+-- The theorems of the rules, and the laws that they share. Demand 3 is read in this order: Moves (what an event does, task by task), Ran (who ran, by history),
+-- Told (history follows it), Jobs (how often a task can commit), Known (what is known at every place of a run), Demand3.
 pub mod Laws
 pub mod Cases
 pub mod Ranking

@@ -1,6 +1,7 @@
--- Demand 3: 'Over any run of calls from a fresh setup: once running, running until its own commit; one that waits clashes with a running one or has no processor; its
--- retry count is the number of clashing transactions that committed while it waited, and is at most the sum.' Request 2: 'Demand 3 speaks of the clash count from now
--- on, and adds that retries never exceed it.' The statements, over any strict ranking that stays while a job is present, any start and any list of calls, refused ones included. History has what they say of the calls; the proofs are in proofs/Demand3.antt.
+-- Demand 3: 'Over any run of calls from a fresh setup: once running, running until its own commit; one that waits clashes with a running one or has no processor;
+-- its retry count is the number of clashing transactions that committed while it waited, and is at most the sum.' Request 2: 'Demand 3 speaks of the clash count
+-- from now on, and adds that retries never exceed it.' The statements, over any strict ranking that stays while a job is present, any start and any list of calls,
+-- refused ones included. History has what they say of the calls; the proofs are in proofs/Demand3.antt.
 use Prim.Native.Nat.{ℕ, _+_, _≤_, _<_}
 use mathlib.Core.Path.{_≡_}
 use mathlib.Core.Logic.{_⊎_, _≢_}
@@ -83,8 +84,8 @@ Held rank s = (i : ℕ) → i < s .n → waiting s i ≡ true → Blocked s (set
 abbrev pub HeldBack : Type 0
 HeldBack = InEveryRun (λ rank start s calls. Held rank s)
 
--- ---- c. its clash count 'is the number of clashing transactions that committed while it waited'; its retry count is the number of those just before which it ran; 'retries
--- never exceed it'
+-- ---- c. its clash count 'is the number of clashing transactions that committed while it waited'; its retry count is the number of those just before which it ran;
+-- 'retries never exceed it'
 
 pub record Counted (rank : Ranking) (start : Session) (calls : List Call) (i clashes retries : ℕ) : Type 0 where
   pub passes : clashes ≡ passed i calls

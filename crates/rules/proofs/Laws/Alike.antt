@@ -1,5 +1,5 @@
--- Two tasks are alike if they are the same but for the counts of a wait, of which the clash count may have risen by 1. An event leaves every task but its own alike; what a commit raises
--- is alike too.
+-- Two tasks are alike if they are the same but for the counts of a wait, of which the clash count may have risen by 1. An event leaves every task but its own
+-- alike; what a commit raises is alike too.
 use Prim.Native.Nat.{ℕ, zero, suc, _+_, _≤_}
 use mathlib.Core.Path.{_≡_, refl, sym, ap, _∙_}
 use mathlib.Core.Logic.{_⊎_, inl, inr, _≢_}

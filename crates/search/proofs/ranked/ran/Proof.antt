@@ -1,4 +1,5 @@
--- `search::ranked::ran` meets its contract: those that come before task i are the executing ones, the plain ones, and the waiting ones that rank above it. Assumes nothing.
+-- `search::ranked::ran` meets its contract: those that come before task i are the executing ones, the plain ones, and the waiting ones that rank above it. Assumes
+-- nothing.
 use Prim.Native.Nat.{ℕ, _+_}
 use mathlib.Core.Path.{_≡_, refl, ap, _∙_}
 use mathlib.Core.List.{List}

@@ -17,7 +17,7 @@ use Rattle.search.proofs.Laws.Past.{absent-past, count-held}
 use Rattle.search.proofs.ranked.used.Statement.{statement}
 use Rattle.search.proofs.ranked.used.Tie as tie
 
--- those that come before task i whatever their rank is, and those of a higher rank than mine
+-- those with the code above that rank higher than mine
 abbrev higher : List ℕ → List ℕ → ℕ → ℕ → ℕ → Bool
 higher codes ranks mine above k = eqb (getD codes k 0) above && ltb (getD ranks k 0) mine
 

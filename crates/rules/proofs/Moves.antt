@@ -32,7 +32,7 @@ use Rattle.rules.specs.Reachable.{Strict, Stays, Sound}
 use Rattle.rules.proofs.Laws.Tasks.{task-replaced, task-other}
 use Rattle.rules.proofs.Laws.Rows.{Agree}
 use Rattle.rules.proofs.Laws.Numbers.{must}
-use Rattle.rules.proofs.Laws.Alike.{raised-size}
+use Rattle.rules.proofs.Laws.Alike.{up, raised-size}
 use Rattle.rules.proofs.Laws.Steps.{arrive-cases, release-cases, commit-cases, finish-cases, step-cases}
 use Rattle.rules.proofs.Laws.Change.{rows-same, rows-replaced}
 use Rattle.rules.proofs.Laws.Listed.{Settled, none-settled, scan-settled}
@@ -45,9 +45,6 @@ abbrev raises : Session → Sets → ℕ → Bool
 raises s x j = waiting s j && clash x (setsAt s j)
 
 module _ (hadRun : ℕ → Bool) (s : Session) (x : Sets) where
-  abbrev up : ℕ → Task
-  up k = raisedTask (hadRun k) (taskAt s k)
-
   -- a task that the commit has not come to is as it was
   pub raised-past : (k j : ℕ) → k ≤ j → getD (raised hadRun s x k) j noTask ≡ taskAt s j
   unfolding raised
@@ -57,11 +54,11 @@ module _ (hadRun : ℕ → Bool) (s : Session) (x : Sets) where
       row : List Task
       row = raised hadRun s x k
 
-      go : getD row j noTask ≡ taskAt s j → (b : Bool) → getD (cond b (set row k (up k)) row) j noTask ≡ taskAt s j
-      go ih true = getD-set-other row k j (up k) noTask (ne-of-gt h) ∙ ih
+      go : getD row j noTask ≡ taskAt s j → (b : Bool) → getD (cond b (set row k (up hadRun s k)) row) j noTask ≡ taskAt s j
+      go ih true = getD-set-other row k j (up hadRun s k) noTask (ne-of-gt h) ∙ ih
       go ih false = ih
 
-  raised-below : (k j : ℕ) → k ≤ length (s .tasks) → j < k → getD (raised hadRun s x k) j noTask ≡ cond (raises s x j) (up j) (taskAt s j)
+  raised-below : (k j : ℕ) → k ≤ length (s .tasks) → j < k → getD (raised hadRun s x k) j noTask ≡ cond (raises s x j) (up hadRun s j) (taskAt s j)
   unfolding raised
   raised-below zero j h l = absurd (not-suc-le-zero l)
   raised-below (suc k) j h l = go (below-suc j k l) (raised-below k j (omega arith)) (raises s x k) refl
@@ -69,11 +66,11 @@ module _ (hadRun : ℕ → Bool) (s : Session) (x : Sets) where
       row : List Task
       row = raised hadRun s x k
 
-      go : (j ≡ k) ⊎ (j < k) → (j < k → getD row j noTask ≡ cond (raises s x j) (up j) (taskAt s j)) → (b : Bool) → raises s x k ≡ b
-          → getD (cond b (set row k (up k)) row) j noTask ≡ cond (raises s x j) (up j) (taskAt s j)
-      go (inl p) ih true e = rw (p, e) (getD-set-same row k (up k) noTask (omega (arith, raised-size hadRun s x k)))
+      go : (j ≡ k) ⊎ (j < k) → (j < k → getD row j noTask ≡ cond (raises s x j) (up hadRun s j) (taskAt s j)) → (b : Bool) → raises s x k ≡ b
+          → getD (cond b (set row k (up hadRun s k)) row) j noTask ≡ cond (raises s x j) (up hadRun s j) (taskAt s j)
+      go (inl p) ih true e = rw (p, e) (getD-set-same row k (up hadRun s k) noTask (omega (arith, raised-size hadRun s x k)))
       go (inl p) ih false e = rw (p, e) (raised-past k k (le-of-eq refl))
-      go (inr m) ih true e = getD-set-other row k j (up k) noTask (ne-of-lt m) ∙ ih m
+      go (inr m) ih true e = getD-set-other row k j (up hadRun s k) noTask (ne-of-lt m) ∙ ih m
       go (inr m) ih false e = ih m
 
 -- ---- an accepted event, before its scan

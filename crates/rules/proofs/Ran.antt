@@ -4,11 +4,10 @@ use Prim.Native.Nat.{ℕ, _+_, _≤_, _<_, zero-le}
 use mathlib.Core.Path.{_≡_, refl, sym, ap, ap₂, _∙_}
 use mathlib.Core.List.{List, [], _∷_}
 use mathlib.Core.Bool.{Bool, true, false, cond, _&&_}
-use native.Mathlib.Nat.{le-of-eq}
 use native.Mathlib.Omega.{arith}
 use lib.Dec.{ltb}
 use Rattle.objects.specs.Below.{one, count}
-use Rattle.objects.proofs.Laws.Below.{and-left, count-ext}
+use Rattle.objects.proofs.Laws.Below.{and-left, and-right, and-both, one-mono, count-ext}
 use Rattle.rules.specs.declared.State.{State}
 use Rattle.rules.specs.declared.State.the-variants.{Absent, Plain, Waiting, Executing}
 use Rattle.rules.specs.declared.Session.{Session}
@@ -66,11 +65,6 @@ ran-told rank stays start s calls m-same n-same told i l =
 
 -- ---- fewer
 
-one-mono : (w a b : Bool) → (a ≡ true → b ≡ true) → one (w && a) ≤ one (w && b)
-one-mono false a b h = le-of-eq refl
-one-mono true false b h = zero-le
-one-mono true true b h = le-of-eq (ap one (sym (h refl)))
-
 -- what has f has g: so there are no more of f
 during-mono : (f g : Call → List Call → Bool) → ((c : Call) (before : List Call) → f c before ≡ true → g c before ≡ true) → (i : ℕ) (calls : List Call)
     → during f i calls ≤ during g i calls
@@ -81,7 +75,10 @@ during-mono f g h i (c ∷ before) = go (deferred c i) (during-mono f g h i befo
     go : (b : Bool) → during f i before ≤ during g i before
         → cond b 0 (during f i before + one (inWait i before && f c before)) ≤ cond b 0 (during g i before + one (inWait i before && g c before))
     go true ih = zero-le
-    go false ih = omega (arith, ih, one-mono (inWait i before) (f c before) (g c before) (h c before))
+    go false ih =
+        let w = inWait i before in
+        let more = one-mono (w && f c before) (w && g c before) (λ e. and-both w (g c before) (and-left w (f c before) e) (h c before (and-right w (f c before) e))) in
+        omega (arith, ih, more)
 
 pub retried-fewer : (rank : Ranking) (start : Session) (i : ℕ) (calls : List Call) → retried rank start i calls ≤ passed i calls
 unfolding retried passed reruns

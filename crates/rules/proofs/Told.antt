@@ -3,7 +3,7 @@ use Prim.Native.Nat.{ℕ, _+_, _≤_, _<_}
 use mathlib.Core.Path.{_≡_, refl, sym, ap, ap₂, subst, _∙_}
 use mathlib.Core.Logic.{inl, inr, _≢_}
 use mathlib.Core.List.{List, [], _∷_}
-use mathlib.Core.Bool.{Bool, true, false, cond, _&&_, _||_, false≢true}
+use mathlib.Core.Bool.{Bool, true, false, cond, _&&_, _||_, and-assoc, false≢true}
 use native.Mathlib.Nat.{add-zero, le-of-eq}
 use native.Mathlib.Omega.{arith}
 use lib.Dec.{eqb}
@@ -64,10 +64,6 @@ pub during-goes : (f : Call → List Call → Bool) (c : Call) (calls : List Cal
     → during f i (c ∷ calls) ≡ during f i calls + one (inWait i calls && f c calls)
 unfolding during
 during-goes f c calls i q = ap (λ (b : Bool). cond b 0 (during f i calls + one (inWait i calls && f c calls))) q
-
-and-assoc : (a b c : Bool) → (a && (b && c)) ≡ ((a && b) && c)
-and-assoc true b c = refl
-and-assoc false b c = refl
 
 pub plus-none : (k : ℕ) (b : Bool) → k + one (b && false) ≡ k
 plus-none k true = add-zero k
@@ -286,7 +282,7 @@ module _ (rank : Ranking) (start s : Session) (e : Event) (said : Said) (s′ : 
     reruns-raised : waiting s j ≡ true → (inWait j calls && reruns rank start j c₀ calls) ≡ (raised && ran rank s j)
     unfolding reruns
     reruns-raised w =
-        and-assoc (inWait j calls) (passes j c₀ calls) (ranBy rank start j calls) ∙ ap₂ (λ (x y : Bool). x && y) (passes-raised w) (told-ran j l)
+        sym (and-assoc (inWait j calls) (passes j c₀ calls) (ranBy rank start j calls)) ∙ ap₂ (λ (x y : Bool). x && y) (passes-raised w) (told-ran j l)
 
     -- what counted before, and whether this call counts, is what counts now
     counted : (f : Call → List Call → Bool) {k : ℕ} {b : Bool} → k ≡ during f j calls → (inWait j calls && f c₀ calls) ≡ b → k + one b ≡ during f j (c₀ ∷ calls)

@@ -43,6 +43,7 @@ isExecuting Executing = true
 abbrev pub noWait : Wait
 noWait = record { release = 0; clashes = 0; retries = 0 }
 
+-- the wait that a state holds
 abbrev pub waitOf : State → Wait
 waitOf Absent = noWait
 waitOf Plain = noWait

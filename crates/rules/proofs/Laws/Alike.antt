@@ -80,11 +80,11 @@ raised-once b t (Waiting v) e w = record {
 }
 raised-once b t Executing e w = absurd (false≢true w)
 
-module _ (hadRun : ℕ → Bool) (s : Session) (x : Sets) where
-  -- the task at place k, raised
-  abbrev up : ℕ → Task
-  up k = raisedTask (hadRun k) (taskAt s k)
+-- the task at place k, raised
+abbrev pub up : (ℕ → Bool) → Session → ℕ → Task
+up hadRun s k = raisedTask (hadRun k) (taskAt s k)
 
+module _ (hadRun : ℕ → Bool) (s : Session) (x : Sets) where
   pub raised-size : (k : ℕ) → length (raised hadRun s x k) ≡ length (s .tasks)
   unfolding raised
   raised-size zero = refl
@@ -93,8 +93,8 @@ module _ (hadRun : ℕ → Bool) (s : Session) (x : Sets) where
       row : List Task
       row = raised hadRun s x k
 
-      go : length row ≡ length (s .tasks) → (b : Bool) → length (cond b (set row k (up k)) row) ≡ length (s .tasks)
-      go ih true = length-set row k (up k) ∙ ih
+      go : length row ≡ length (s .tasks) → (b : Bool) → length (cond b (set row k (up hadRun s k)) row) ≡ length (s .tasks)
+      go ih true = length-set row k (up hadRun s k) ∙ ih
       go ih false = ih
 
   pub raised-alike : (k : ℕ) → k ≤ length (s .tasks) → (j : ℕ) → Alike (taskAt s j) (getD (raised hadRun s x k) j noTask)
@@ -106,10 +106,10 @@ module _ (hadRun : ℕ → Bool) (s : Session) (x : Sets) where
       row = raised hadRun s x k
 
       go : ((j : ℕ) → Alike (taskAt s j) (getD row j noTask)) → (b : Bool) → (waiting s k && clash x (setsAt s k)) ≡ b
-          → (j : ℕ) → Alike (taskAt s j) (getD (cond b (set row k (up k)) row) j noTask)
+          → (j : ℕ) → Alike (taskAt s j) (getD (cond b (set row k (up hadRun s k)) row) j noTask)
       go ih true e =
-          at-or-other k (λ (j : ℕ). Alike (taskAt s j) (getD (set row k (up k)) j noTask))
-          (rw (getD-set-same row k (up k) noTask (omega (arith, raised-size k)))
+          at-or-other k (λ (j : ℕ). Alike (taskAt s j) (getD (set row k (up hadRun s k)) j noTask))
+          (rw (getD-set-same row k (up hadRun s k) noTask (omega (arith, raised-size k)))
           (inr (raised-once (hadRun k) (taskAt s k) (taskAt s k .state) refl (and-left (waiting s k) (clash x (setsAt s k)) e))))
-          (λ j d. rw (getD-set-other row k j (up k) noTask d) (ih j))
+          (λ j d. rw (getD-set-other row k j (up hadRun s k) noTask d) (ih j))
       go ih false e = ih

@@ -3,7 +3,7 @@ use Prim.Native.Nat.{ℕ, zero, suc, _<_}
 use mathlib.Core.Path.{_≡_, refl, sym, ap, ap₂, _∙_}
 use mathlib.Core.Logic.{_⊎_, inl, inr}
 use mathlib.Core.List.{List, [], _∷_, _++_}
-use mathlib.Core.Bool.{Bool, true, false, _&&_}
+use mathlib.Core.Bool.{Bool, true, false, _&&_, and-assoc}
 use native.Mathlib.Omega.{arith}
 use lib.ListN.{getD}
 use Rattle.objects.proofs.Laws.Below.{below-suc}
@@ -21,16 +21,12 @@ unfolding entered
 entered-both all [] ys = refl
 entered-both all (x ∷ xs) ys = entered-both (enter all x) xs ys
 
-and-assoc : (a b c : Bool) → (a && (b && c)) ≡ ((a && b) && c)
-and-assoc true b c = refl
-and-assoc false b c = refl
-
 pub enterable-both : (all : List Figures) (xs ys : List Item) → enterable all (xs ++ ys) ≡ (enterable all xs && enterable (entered all xs) ys)
 unfolding entered enterable
 enterable-both all [] ys = refl
 enterable-both all (x ∷ xs) ys =
     ap (λ (b : Bool). fits (figuresAt all (taskOf x)) x && b) (enterable-both (enter all x) xs ys)
-    ∙ and-assoc (fits (figuresAt all (taskOf x)) x) (enterable (enter all x) xs) (enterable (entered (enter all x) xs) ys)
+    ∙ sym (and-assoc (fits (figuresAt all (taskOf x)) x) (enterable (enter all x) xs) (enterable (entered (enter all x) xs) ys))
 
 -- ---- one item
 

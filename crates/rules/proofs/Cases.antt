@@ -5,7 +5,7 @@ use Rattle.rules.specs.Setup.{fresh}
 use Rattle.rules.specs.Events.{after}
 use Rattle.rules.specs.Sum.{bound}
 use Rattle.rules.specs.Lines.{eventLines}
-use Rattle.rules.specs.Cases.{WholeSession, WholeSum, DeferredReleaseScans, FinishScans, OneOfTwoAdmitted, CommittedEmpty, OnlyClashingCommits, RanAndDidNot, UsedUp, OnePeriodLater}
+use Rattle.rules.specs.Cases.{WholeSession, WholeSum, DeferredReleaseScans, FinishScans, OneOfTwoAdmitted, CommittedEmpty, OnlyClashingCommits, RanAndDidNot, HighestOfSeveral, UsedUp, OnePeriodLater}
 
 pub whole-session : WholeSession
 unfolding byPriority fresh eventLines
@@ -38,6 +38,10 @@ only-clashing-commits = refl
 pub ran-and-did-not : RanAndDidNot
 unfolding byPriority fresh eventLines
 ran-and-did-not = refl
+
+pub highest-of-several : HighestOfSeveral
+unfolding byPriority fresh eventLines
+highest-of-several = refl
 
 pub used-up : UsedUp
 unfolding byPriority fresh eventLines

@@ -1,11 +1,27 @@
--- What is decided of a transaction against those that execute is what is said plainly: a yes of `any` has a task that gives it, and the other way round.
-use Prim.Native.Nat.{ℕ}
-use mathlib.Core.Bool.{Bool, _&&_}
-use Rattle.objects.specs.Objects.{clash, clashOn}
-use Rattle.objects.proofs.Laws.Below.{any-witness, any-at, and-left, and-right, and-both}
+-- What is decided of a transaction against those that execute is what is said plainly: a yes of `any` has a task that gives it, and the other way round. The task that a
+-- wait names is the foremost of those that clash, and with a strict ranking there is one foremost.
+use Prim.Native.Nat.{ℕ, _≤_, _<_}
+use mathlib.Core.Path.{_≡_, refl, sym, ap, _∙_}
+use mathlib.Core.Logic.{_≢_, ⊎-elim}
+use mathlib.Core.Bool.{Bool, true, false, _&&_, false≢true}
+use native.Mathlib.Nat.{le-antisymm}
+use native.Mathlib.Omega.{arith}
+use Rattle.objects.specs.Objects.{Sets, clash, clashOn, Clash}
+use Rattle.objects.proofs.Laws.Below.{below-or-from, any-witness, any-at, and-left, and-right, and-both}
 use Rattle.objects.proofs.Laws.Clash.{clash-plain, clash-on-plain}
-use Rattle.rules.specs.Tasks.{executing, setsAt}
-use Rattle.rules.specs.Contest.{blocked, contestedOn, BlockedPlain, ContestedPlain}
+use Rattle.rules.specs.declared.Said.{Said}
+use Rattle.rules.specs.declared.Said.the-variants.{Ok, Run, Wait, No}
+use Rattle.rules.specs.declared.Answer.{Answer}
+use Rattle.rules.specs.Answers.{whom}
+use Rattle.rules.specs.Ranking.{foremost}
+use Rattle.rules.specs.Tasks.{taskAt, executing, setsAt, setsOf}
+use Rattle.rules.specs.Room.{rankAt}
+use Rattle.rules.specs.Contest.{clashing, blocked, contestedOn, highestClashing, Blocked, BlockedPlain, ContestedPlain, HighestClashing, HighestPlain}
+use Rattle.rules.specs.Events.{releaseNumber, refused, waitSaid}
+use Rattle.rules.specs.Reachable.{WaitNames}
+use Rattle.rules.specs.History.{isWait}
+use Rattle.rules.proofs.Laws.Foremost.{foremost-found, foremost-first}
+use Rattle.rules.proofs.Laws.Steps.{arrive-cases, release-cases, commit-cases, finish-cases, step-cases}
 
 pub blocked-plain : BlockedPlain
 unfolding blocked
@@ -34,3 +50,63 @@ contested-plain s x b l = (
   where
     with-it : ℕ → Bool
     with-it j = executing s j && clashOn x (setsAt s j) b
+
+pub highest-plain : HighestPlain
+unfolding highestClashing
+highest-plain rank strict s x small = (found, only)
+  where
+    h : ℕ
+    h = foremost (s .n) (clashing s x) (rankAt rank s)
+
+    clashes-at : (j : ℕ) → executing s j ≡ true → Clash x (setsAt s j) → clashing s x j ≡ true
+    clashes-at j e c = and-both (executing s j) (clash x (setsAt s j)) e (clash-plain x (setsAt s j) .1 c)
+
+    first : (j : ℕ) → j < s .n → executing s j ≡ true → Clash x (setsAt s j) → (h ≢ 64) × (rankAt rank s h ≤ rankAt rank s j)
+    first j l e c = foremost-first (s .n) (clashing s x) (rankAt rank s) small j l (clashes-at j e c)
+
+    is : h ≢ 64 → HighestClashing rank s x h
+    is d =
+        let w = foremost-found (s .n) (clashing s x) (rankAt rank s) d in
+        let yes = clash x (setsAt s h) in
+        record {
+          below = w .0;
+          executes = and-left (executing s h) yes (w .1);
+          clashes = clash-plain x (setsAt s h) .0 (and-right (executing s h) yes (w .1));
+          highest = λ j l e c above. absurd (omega (arith, first j l e c .1, above));
+        }
+
+    found : Blocked s x → HighestClashing rank s x h
+    found b = is (first (b .0) (b .1) (b .2) (b .3) .0)
+
+    only : (i : ℕ) → HighestClashing rank s x i → i ≡ h
+    only i g =
+        let f = first i (g .below) (g .executes) (g .clashes) in
+        let m = is (f .0) in
+        let not-above = g .highest h (m .below) (m .executes) (m .clashes) in
+        let same = ⊎-elim (λ l. absurd (not-above l)) (λ l. le-antisymm l (f .1)) (below-or-from (rankAt rank s h) (rankAt rank s i)) in
+        strict (taskAt s i) (taskAt s h) i h (omega (arith, g .below, small)) (omega (arith, m .below, small)) same
+
+-- an answer that is no wait names nobody
+pub wait-names : WaitNames
+wait-names rank strict s e small =
+    step-cases rank s e Named
+    (λ kind. arrive-cases Named s refuses (e .tick) (e .task) (λ z b k i p. other Ok refl b k i p))
+    (λ kind. release-cases Named s refuses (e .tick) (e .task) rank (e .reads) (e .writes) waits (λ z free b k i p. other Run refl b k i p))
+    (λ kind. commit-cases Named s refuses (e .tick) (e .task) rank (λ z b k i p. other Ok refl b k i p))
+    (λ kind. finish-cases Named s refuses (e .tick) (e .task) rank (λ z b k i p. other Ok refl b k i p))
+  where
+    x : Sets
+    x = setsOf (e .reads) (e .writes)
+
+    Named : Answer → Type 0
+    Named a = (b k i : ℕ) → a .said ≡ Wait b k i → HighestClashing rank s x i
+
+    other : (said : Said) → isWait said ≡ false → (b k i : ℕ) → said ≡ Wait b k i → HighestClashing rank s x i
+    other said q b k i p = absurd (false≢true (sym q ∙ ap isWait p))
+
+    refuses : (k : ℕ) → k ≢ 0 → Named (refused s k)
+    refuses k d b c i p = other (No k) refl b c i p
+
+    waits : releaseNumber rank s (e .tick) (e .task) ≡ 0 → blocked s x ≡ true
+        → (b k i : ℕ) → waitSaid rank s x ≡ Wait b k i → HighestClashing rank s x i
+    waits z clashes b k i p = rw (ap whom p) at (highest-plain rank strict s x small .0 (blocked-plain s x .0 clashes))

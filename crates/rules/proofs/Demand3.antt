@@ -24,14 +24,14 @@ use Rattle.rules.specs.declared.Said.{Said}
 use Rattle.rules.specs.declared.Admission.{Admission}
 use Rattle.rules.specs.declared.Answer.{Answer}
 use Rattle.rules.specs.Answers.{number}
-use Rattle.rules.specs.Ranking.{Ranking}
+use Rattle.rules.specs.Ranking.{Ranking, Strict, Stays}
 use Rattle.rules.specs.Tasks.{isWaiting, isExecuting, allowed, known, taskAt, stateAt, executing, setsAt}
 use Rattle.rules.specs.Setup.{termsNumber}
 use Rattle.rules.specs.Room.{ran}
 use Rattle.rules.specs.Events.{raisedState, raisedTask, step}
 use Rattle.rules.specs.Scan.{noAdmission, admission}
 use Rattle.rules.specs.Sum.{share, bound, summed}
-use Rattle.rules.specs.Reachable.{Strict, Stays, Sound}
+use Rattle.rules.specs.Reachable.{Sound}
 use Rattle.rules.specs.History.{Call, heard, commits, waitLength, during, passes, passed, reruns, retried}
 use Rattle.rules.specs.Demand3.{Run, begun, called, SameSets, FreshStarts, RunSound, ClashesFit, commitsIn, OnceRunning, HeldBack, Counted, WaitsCounted, AdmittedCounted, Bounded, RunningApart, AsTold}
 use Rattle.rules.proofs.Laws.Numbers.{must, must-not, allowed-is, allowed-bounds}
@@ -82,7 +82,7 @@ module _ (rank : Ranking) (s : Session) (e : Event) (a : Answer) (s₁ : Session
       go : {said : Said} {u : Task} → Own (taskAt s (e .task)) e said u → ⊥
       go (arrives kind q late) = false≢true (was q)
       go (runs kind q) = false≢true (was q)
-      go (waits kind q b k) = false≢true (was q)
+      go (waits kind q b k h) = false≢true (was q)
       go (commitsOwn kind q) = not-both (commits (heard e a) i) (rw (eq-eqb (number (a .said)) 0 (moved .zero), eq-eqb (e .task) i (sym p), kind) refl) on
       go (finishes kind q) = false≢true (was q)
 

@@ -17,13 +17,13 @@ use Rattle.rules.specs.declared.State.the-variants.{Absent, Plain, Waiti
 use Rattle.rules.specs.declared.Arrival.the-variants.{At}
 use Rattle.rules.specs.declared.Session.{Session}
 use Rattle.rules.specs.declared.Answer.{Answer}
-use Rattle.rules.specs.Ranking.{Ranking}
+use Rattle.rules.specs.Ranking.{Ranking, Strict, Stays}
 use Rattle.rules.specs.Tasks.{isAbsent, isPlain, isWaiting, isExecuting, taskAt, stateAt, setsAt, setsOf, waitOf, inState, withGroups, withTask, stamped}
 use Rattle.rules.specs.Room.{room, ran}
 use Rattle.rules.specs.Contest.{blocked}
 use Rattle.rules.specs.Scan.{scan}
 use Rattle.rules.specs.Events.{early, arriveNumber, releaseNumber, commitNumber, finishNumber, arrived, released, releasedInto, begins, raised, empty, committed, finished, refused}
-use Rattle.rules.specs.Reachable.{Strict, Stays, EmptyAt, Sound, StepSound}
+use Rattle.rules.specs.Reachable.{EmptyAt, Sound, StepSound}
 use Rattle.rules.proofs.Laws.Room.{room-fewer, unblocked-apart}
 use Rattle.rules.proofs.Laws.Steps.{arrive-cases, release-cases, commit-cases, finish-cases, step-cases}
 use Rattle.rules.proofs.Laws.Rows.{Agree, groups-same, clash-agree}

@@ -83,7 +83,7 @@ module _ (t : Task) (e : Event) (C A b : ℕ) (live : Live t C A b) where
       })
   own-live said u (runs kind was) few since =
       rw kind (simp add-zero (record { jobs = omega (arith, live .jobs, allows t Plain was, ap busy was); spaced = live .spaced }))
-  own-live said u (waits kind was o k) few since =
+  own-live said u (waits kind was o k h) few since =
       rw kind (simp add-zero (record { jobs = omega (arith, live .jobs, allows t Plain was, ap busy was); spaced = live .spaced }))
   own-live said u (commits kind was) few since =
       rw kind (simp add-zero (record { jobs = omega (arith, live .jobs, allows t Executing was, ap busy was); spaced = live .spaced }))
@@ -147,14 +147,14 @@ module _ (t u : Task) (k : Kin t u) where
 pub own-ready : (t : Task) (e : Event) (said : Said) (u : Task) → Own t e said u → Ready u
 own-ready t e said u (arrives kind was late) = zero-le
 own-ready t e said u (runs kind was) = omega arith
-own-ready t e said u (waits kind was o k) = omega arith
+own-ready t e said u (waits kind was o k h) = omega arith
 own-ready t e said u (commits kind was) = zero-le
 own-ready t e said u (finishes kind was) = zero-le
 
 pub own-terms : (t : Task) (e : Event) (said : Said) (u : Task) → Own t e said u → u .terms ≡ t .terms
 own-terms t e said u (arrives kind was late) = refl
 own-terms t e said u (runs kind was) = refl
-own-terms t e said u (waits kind was o k) = refl
+own-terms t e said u (waits kind was o k h) = refl
 own-terms t e said u (commits kind was) = refl
 own-terms t e said u (finishes kind was) = refl
 

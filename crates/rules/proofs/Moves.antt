@@ -22,13 +22,12 @@ use Rattle.rules.specs.declared.Said.{Said}
 use Rattle.rules.specs.declared.Said.the-variants.{Ok, Run, Wait}
 use Rattle.rules.specs.declared.Answer.{Answer}
 use Rattle.rules.specs.Answers.{number}
-use Rattle.rules.specs.Ranking.{Ranking}
+use Rattle.rules.specs.Ranking.{Ranking, Strict, Stays}
 use Rattle.rules.specs.Tasks.{isExecuting, noTask, taskAt, stateAt, waiting, setsAt, setsOf, inState, withTask, withTasks, stamped}
 use Rattle.rules.specs.Room.{ran}
-use Rattle.rules.specs.Contest.{lowestContested, contestedCount}
-use Rattle.rules.specs.Events.{early, arriveNumber, releaseNumber, commitNumber, finishNumber, refused, still, scanning, arrived, released, releasedInto, begins, raisedTask, raised, empty, committed, finished, step}
+use Rattle.rules.specs.Events.{early, arriveNumber, releaseNumber, commitNumber, finishNumber, refused, still, scanning, arrived, released, releasedInto, begins, waitSaid, raisedTask, raised, empty, committed, finished, step}
 use Rattle.rules.specs.History.{isRelease, isCommit}
-use Rattle.rules.specs.Reachable.{Strict, Stays, Sound}
+use Rattle.rules.specs.Reachable.{Sound}
 use Rattle.rules.proofs.Laws.Tasks.{task-replaced, task-other}
 use Rattle.rules.proofs.Laws.Rows.{Agree}
 use Rattle.rules.proofs.Laws.Numbers.{must}
@@ -79,7 +78,7 @@ module _ (hadRun : ℕ → Bool) (s : Session) (x : Sets) where
 pub data Own (t : Task) (e : Event) : Said → Task → Type 0 where
   arrives : e .kind ≡ Arrive → t .state ≡ Absent → early (t .arrival) (t .terms .period) (e .tick) ≡ false → Own t e Ok (arrived t (e .tick))
   runs : e .kind ≡ Release → t .state ≡ Plain → Own t e Run (released t Executing)
-  waits : e .kind ≡ Release → t .state ≡ Plain → (b k : ℕ) → Own t e (Wait b k) (released t (begins (e .tick)))
+  waits : e .kind ≡ Release → t .state ≡ Plain → (b k h : ℕ) → Own t e (Wait b k h) (released t (begins (e .tick)))
   commits : e .kind ≡ Commit → t .state ≡ Executing → Own t e Ok (inState t Plain)
   finishes : e .kind ≡ Finish → t .state ≡ Plain → Own t e Ok (finished t)
 
@@ -212,10 +211,8 @@ module _ (rank : Ranking) (strict : Strict rank) (stays : Stays rank) (s : Sessi
       (λ kind. arrive-cases (Taken rank s e) s refuses (e .tick) i (λ z. still-taken Ok _ (arrive-taken kind z)))
       (λ kind. release-cases (Taken rank s e) s refuses (e .tick) i rank (e .reads) (e .writes)
       (λ z b.
-      let low = lowestContested s (setsOf (e .reads) (e .writes)) in
-      let many = contestedCount s (setsOf (e .reads) (e .writes)) in
-      scan-taken (Wait low many) _
-      (release-taken kind z (Wait low many) (begins (e .tick)) refl (λ was. waits kind was low many)))
+      let said = waitSaid rank s (setsOf (e .reads) (e .writes)) in
+      scan-taken said _ (release-taken kind z said (begins (e .tick)) refl (λ was. waits kind was _ _ _)))
       (λ z b. still-taken Run _ (release-taken kind z Run Executing refl (runs kind))))
       (λ kind. commit-cases (Taken rank s e) s refuses (e .tick) i rank (λ z. scan-taken Ok _ (commit-taken kind z)))
       (λ kind. finish-cases (Taken rank s e) s refuses (e .tick) i rank (λ z. scan-taken Ok _ (finish-taken kind z)))

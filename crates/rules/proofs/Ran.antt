@@ -11,10 +11,9 @@ use Rattle.objects.proofs.Laws.Below.{and-left, and-right, and-both, one-mono, 
 use Rattle.rules.specs.declared.State.{State}
 use Rattle.rules.specs.declared.State.the-variants.{Absent, Plain, Waiting, Executing}
 use Rattle.rules.specs.declared.Session.{Session}
-use Rattle.rules.specs.Ranking.{Ranking}
+use Rattle.rules.specs.Ranking.{Ranking, Stays}
 use Rattle.rules.specs.Tasks.{isPlain, isWaiting, isExecuting, taskAt, stateAt, plain, waiting, executing}
 use Rattle.rules.specs.Room.{rankAt, waitingAbove, ran}
-use Rattle.rules.specs.Reachable.{Stays}
 use Rattle.rules.specs.History.{Call, stage, isWaits, inWait, isPlains, isExecutes, deferred, during, passes, passed, rankBy, ranBy, reruns, retried}
 use Rattle.rules.specs.Demand3.{stageOf, Told}
 

@@ -6,8 +6,7 @@ use mathlib.Core.Logic.{_⊎_, inl, inr}
 use native.Mathlib.Omega.{arith}
 use Rattle.objects.proofs.Laws.Below.{below-or-from}
 use Rattle.rules.specs.declared.Terms.{Terms}
-use Rattle.rules.specs.Ranking.{byPriority, RankingAgrees}
-use Rattle.rules.specs.Reachable.{PriorityStrict}
+use Rattle.rules.specs.Ranking.{byPriority, RankingAgrees, PriorityStrict}
 
 above-number : (p q i j : ℕ) → p ≤ 65535 → i < 64 → (q < p) ⊎ ((p ≡ q) × (i < j)) → (65535 - p) * 64 + i < (65535 - q) * 64 + j
 above-number p q i j hp hi (inl l) = omega arith

@@ -253,7 +253,7 @@ module _ (rank : Ranking) (start s : Session) (e : Event) (said : Said) (s′ : 
       go : {said : Said} {u : Task} → Own (taskAt s i) e said u → executing s i ≡ true
       go (arrives kind was late) = absurd (false≢true (ap isCommit (sym kind) ∙ q))
       go (runs kind was) = absurd (false≢true (ap isCommit (sym kind) ∙ q))
-      go (waits kind was b k) = absurd (false≢true (ap isCommit (sym kind) ∙ q))
+      go (waits kind was b k h) = absurd (false≢true (ap isCommit (sym kind) ∙ q))
       go (commits kind was) = ap isExecuting was
       go (finishes kind was) = absurd (false≢true (ap isCommit (sym kind) ∙ q))
 
@@ -345,7 +345,7 @@ module _ (rank : Ranking) (start s : Session) (e : Event) (said : Said) (s′ : 
         terms = before .told .terms;
         arrival = rw (mine, kind) (before .told .arrival);
       }
-      go said u (waits kind was b k) = record {
+      go said u (waits kind was b k h) = record {
         stands = rw (mine, kind);
         sets = λ b. rw (mine, kind) (new-sets (ap isRelease kind));
         wait = λ w q. record {

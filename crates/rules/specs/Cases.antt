@@ -1,4 +1,4 @@
--- Document 01's worked cases, and one of request 2, as claims about the lines.
+-- Document 01's worked cases, one of request 2 and one of request 3, as claims about the lines.
 use Prim.Native.Nat.{ℕ, _^_}
 use mathlib.Core.Path.{_≡_}
 use mathlib.Core.List.{List, [], _∷_, _++_}
@@ -48,10 +48,11 @@ wholeEvents =
     ∷ releaseOf 5 2 empty (only 7) ∷ plainEvent Commit 6 0 ∷ plainEvent Commit 7 2 ∷ plainEvent Finish 8 0 ∷ plainEvent Commit 8 1
     ∷ plainEvent Finish 9 1 ∷ plainEvent Finish 10 0 ∷ plainEvent Finish 11 2 ∷ plainEvent Arrive 12 1 ∷ []
 
--- the sixteen lines after `setup`, the last included. Request 2: 'in 01's session it becomes `7 admit 1 2 0`'.
+-- the sixteen lines after `setup`, the last included. Request 2: 'in 01's session it becomes `7 admit 1 2 0`'. Request 3: the wait line has task 0, which executes and
+-- writes object 4, as its third number.
 abbrev pub wholeLines : List Line
 wholeLines =
-    event 0 Arrive 0 Ok ∷ event 1 Release 0 Run ∷ event 2 Arrive 1 Ok ∷ event 3 Release 1 (Wait 4 1) ∷ event 4 Arrive 2 Ok ∷ event 5 Release 2 Run
+    event 0 Arrive 0 Ok ∷ event 1 Release 0 Run ∷ event 2 Arrive 1 Ok ∷ event 3 Release 1 (Wait 4 1 0) ∷ event 4 Arrive 2 Ok ∷ event 5 Release 2 Run
     ∷ event 6 Commit 0 Ok ∷ event 7 Commit 2 Ok ∷ admit 7 1 2 0 ∷ event 8 Finish 0 (No 6) ∷ event 8 Commit 1 Ok ∷ event 9 Finish 1 Ok
     ∷ event 10 Finish 0 Ok ∷ event 11 Finish 2 Ok ∷ event 12 Arrive 1 (No 5) ∷ end 12 2 ∷ []
 
@@ -82,8 +83,8 @@ DeferredReleaseScans =
     eventLines byPriority (fresh (rising 2 fourTasks)) 0
     (plainEvent Arrive 0 0 ∷ writes 1 0 1 ∷ plainEvent Arrive 2 1 ∷ writes 3 1 1 ∷ plainEvent Arrive 4 2 ∷ writes 5 2 2 ∷ plainEvent Arrive 6 3
     ∷ plainEvent Commit 7 0 ∷ writes 8 3 2 ∷ [])
-    ≡ event 0 Arrive 0 Ok ∷ event 1 Release 0 Run ∷ event 2 Arrive 1 Ok ∷ event 3 Release 1 (Wait 1 1) ∷ event 4 Arrive 2 Ok ∷ event 5 Release 2 Run
-    ∷ event 6 Arrive 3 Ok ∷ event 7 Commit 0 Ok ∷ event 8 Release 3 (Wait 2 1) ∷ admit 8 1 1 0 ∷ end 9 0 ∷ []
+    ≡ event 0 Arrive 0 Ok ∷ event 1 Release 0 Run ∷ event 2 Arrive 1 Ok ∷ event 3 Release 1 (Wait 1 1 0) ∷ event 4 Arrive 2 Ok ∷ event 5 Release 2 Run
+    ∷ event 6 Arrive 3 Ok ∷ event 7 Commit 0 Ok ∷ event 8 Release 3 (Wait 2 1 2) ∷ admit 8 1 1 0 ∷ end 9 0 ∷ []
 
 -- the same, but that 3 finishes: 'a finish and a deferred release scan too, since both can free one'
 abbrev pub FinishScans : Type 0
@@ -91,7 +92,7 @@ FinishScans =
     eventLines byPriority (fresh (rising 2 fourTasks)) 0
     (plainEvent Arrive 0 0 ∷ writes 1 0 1 ∷ plainEvent Arrive 2 1 ∷ writes 3 1 1 ∷ plainEvent Arrive 4 2 ∷ writes 5 2 2 ∷ plainEvent Arrive 6 3
     ∷ plainEvent Commit 7 0 ∷ plainEvent Finish 8 3 ∷ [])
-    ≡ event 0 Arrive 0 Ok ∷ event 1 Release 0 Run ∷ event 2 Arrive 1 Ok ∷ event 3 Release 1 (Wait 1 1) ∷ event 4 Arrive 2 Ok ∷ event 5 Release 2 Run
+    ≡ event 0 Arrive 0 Ok ∷ event 1 Release 0 Run ∷ event 2 Arrive 1 Ok ∷ event 3 Release 1 (Wait 1 1 0) ∷ event 4 Arrive 2 Ok ∷ event 5 Release 2 Run
     ∷ event 6 Arrive 3 Ok ∷ event 7 Commit 0 Ok ∷ event 8 Finish 3 Ok ∷ admit 8 1 1 0 ∷ end 9 0 ∷ []
 
 -- 'Testing all waiting ones against the m-set as it was before the scan, and admitting two that clash': 1 and 2 both wait to write what 0 writes; when 0
@@ -103,8 +104,8 @@ clashingEvents =
 abbrev pub OneOfTwoAdmitted : Type 0
 OneOfTwoAdmitted =
     eventLines byPriority (fresh (rising 3 fourTasks)) 0 clashingEvents
-    ≡ event 0 Arrive 0 Ok ∷ event 1 Release 0 Run ∷ event 2 Arrive 1 Ok ∷ event 3 Release 1 (Wait 1 1) ∷ event 4 Arrive 2 Ok
-    ∷ event 5 Release 2 (Wait 1 1) ∷ event 6 Commit 0 Ok ∷ admit 6 2 1 1 ∷ end 7 0 ∷ []
+    ≡ event 0 Arrive 0 Ok ∷ event 1 Release 0 Run ∷ event 2 Arrive 1 Ok ∷ event 3 Release 1 (Wait 1 1 0) ∷ event 4 Arrive 2 Ok
+    ∷ event 5 Release 2 (Wait 1 1 0) ∷ event 6 Commit 0 Ok ∷ admit 6 2 1 1 ∷ end 7 0 ∷ []
 
 -- 'Letting a task just committed keep its old sets': the four words of task 0's write set are 0 after its commit
 abbrev pub CommittedEmpty : Type 0
@@ -117,7 +118,7 @@ OnlyClashingCommits =
     eventLines byPriority (fresh (rising 3 fourTasks)) 0
     (plainEvent Arrive 0 0 ∷ writes 1 0 1 ∷ plainEvent Arrive 2 1 ∷ writes 3 1 1 ∷ plainEvent Arrive 4 2 ∷ writes 5 2 2 ∷ plainEvent Commit 6 2
     ∷ plainEvent Commit 7 0 ∷ [])
-    ≡ event 0 Arrive 0 Ok ∷ event 1 Release 0 Run ∷ event 2 Arrive 1 Ok ∷ event 3 Release 1 (Wait 1 1) ∷ event 4 Arrive 2 Ok ∷ event 5 Release 2 Run
+    ≡ event 0 Arrive 0 Ok ∷ event 1 Release 0 Run ∷ event 2 Arrive 1 Ok ∷ event 3 Release 1 (Wait 1 1 0) ∷ event 4 Arrive 2 Ok ∷ event 5 Release 2 Run
     ∷ event 6 Commit 2 Ok ∷ event 7 Commit 0 Ok ∷ admit 7 1 1 1 ∷ end 8 0 ∷ []
 
 -- ---- request 2: a retry that ran, and some that did not
@@ -133,8 +134,34 @@ RanAndDidNot =
     eventLines byPriority (fresh (rising 3 fourTasks)) 0
     (plainEvent Arrive 0 0 ∷ releaseOf 1 0 (only 3) (only 1) ∷ plainEvent Arrive 2 1 ∷ writes 3 1 2 ∷ plainEvent Arrive 4 2 ∷ writes 5 2 3
     ∷ plainEvent Arrive 6 3 ∷ releaseOf 7 3 (only 1) (only 2) ∷ plainEvent Commit 8 0 ∷ plainEvent Commit 9 1 ∷ [])
-    ≡ event 0 Arrive 0 Ok ∷ event 1 Release 0 Run ∷ event 2 Arrive 1 Ok ∷ event 3 Release 1 Run ∷ event 4 Arrive 2 Ok ∷ event 5 Release 2 (Wait 3 1)
-    ∷ event 6 Arrive 3 Ok ∷ event 7 Release 3 (Wait 1 2) ∷ event 8 Commit 0 Ok ∷ admit 8 2 1 0 ∷ event 9 Commit 1 Ok ∷ admit 9 3 2 1 ∷ end 10 0 ∷ []
+    ≡ event 0 Arrive 0 Ok ∷ event 1 Release 0 Run ∷ event 2 Arrive 1 Ok ∷ event 3 Release 1 Run ∷ event 4 Arrive 2 Ok ∷ event 5 Release 2 (Wait 3 1 0)
+    ∷ event 6 Arrive 3 Ok ∷ event 7 Release 3 (Wait 1 2 1) ∷ event 8 Commit 0 Ok ∷ admit 8 2 1 0 ∷ event 9 Commit 1 Ok ∷ admit 9 3 2 1 ∷ end 10 0 ∷ []
+
+-- ---- request 3: whom it waits for
+
+-- m = 8, and priorities 20, 10, 25, 30, 30, 60, 50, 70 for tasks 0 to 7.
+abbrev pub eightTasks : Setup
+eightTasks =
+    setupOf 8 8 56
+    (terms 20 100 1 ∷ terms 10 100 1 ∷ terms 25 100 1 ∷ terms 30 100 1 ∷ terms 30 100 1 ∷ terms 60 100 1 ∷ terms 50 100 1 ∷ terms 70 100 1 ∷ [])
+
+-- the set of objects 1 to 6: 2 + 4 + 8 + 16 + 32 + 64
+abbrev pub oneToSix : List ℕ
+oneToSix = 126 ∷ 0 ∷ 0 ∷ 0 ∷ []
+
+-- Tasks 0 to 4 execute writing 3, 4, 1, 5 and 6, and task 7 writing 9. 5 reads 3 and writes 2, and waits for 0. Then 6 releases writing 1 to 6. By hand: of the executing
+-- ones it clashes with 0 to 4, on 3, 4, 1, 5 and 6, so the lowest contested object is 1 and there are 5: nobody who executes has 2. The highest priority among 0 to 4 is 30, of
+-- 3 and of 4, and the lower number ranks higher: it waits for 3. Of the other tasks, 0 is the first in number, 1 ranks lowest, 2 holds the lowest contested object, 4 is
+-- the higher number of the two, 5 clashes and ranks higher but waits, and 7 executes and ranks higher but does not clash.
+abbrev pub HighestOfSeveral : Type 0
+HighestOfSeveral =
+    eventLines byPriority (fresh eightTasks) 0
+    (plainEvent Arrive 0 0 ∷ plainEvent Arrive 0 1 ∷ plainEvent Arrive 0 2 ∷ plainEvent Arrive 0 3 ∷ plainEvent Arrive 0 4 ∷ plainEvent Arrive 0 5
+    ∷ plainEvent Arrive 0 6 ∷ plainEvent Arrive 0 7 ∷ writes 1 0 3 ∷ writes 2 1 4 ∷ writes 3 2 1 ∷ writes 4 3 5 ∷ writes 5 4 6 ∷ writes 6 7 9
+    ∷ releaseOf 7 5 (only 3) (only 2) ∷ releaseOf 8 6 empty oneToSix ∷ [])
+    ≡ event 0 Arrive 0 Ok ∷ event 0 Arrive 1 Ok ∷ event 0 Arrive 2 Ok ∷ event 0 Arrive 3 Ok ∷ event 0 Arrive 4 Ok ∷ event 0 Arrive 5 Ok
+    ∷ event 0 Arrive 6 Ok ∷ event 0 Arrive 7 Ok ∷ event 1 Release 0 Run ∷ event 2 Release 1 Run ∷ event 3 Release 2 Run ∷ event 4 Release 3 Run
+    ∷ event 5 Release 4 Run ∷ event 6 Release 7 Run ∷ event 7 Release 5 (Wait 3 1 0) ∷ event 8 Release 6 (Wait 1 5 3) ∷ end 16 0 ∷ []
 
 -- ---- at the edge of a refusal
 

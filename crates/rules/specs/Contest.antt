@@ -1,17 +1,23 @@
 -- A transaction against those that are executing.
-use Prim.Native.Nat.{ℕ, _<_}
+use Prim.Native.Nat.{ℕ, _≤_, _<_}
 use mathlib.Core.Path.{_≡_}
 use mathlib.Core.Bool.{Bool, true, _&&_}
 use Rattle.objects.specs.Below.{any, count, least}
 use Rattle.objects.specs.Objects.{Sets, clash, clashOn, Clash, ClashOn}
 use Rattle.rules.specs.declared.Session.{Session}
+use Rattle.rules.specs.Ranking.{Ranking, Strict, foremost}
 use Rattle.rules.specs.Tasks.{executing, setsAt}
+use Rattle.rules.specs.Room.{rankAt}
+
+-- task j executes, and it clashes with its transaction
+abbrev pub clashing : Session → Sets → ℕ → Bool
+clashing s x j = executing s j && clash x (setsAt s j)
 
 -- it clashes with an executing transaction. 'For a yes or no, the first such object ends the question.' The two are of different tasks: this is asked of
 -- one that releases or waits, and those do not execute.
 unfoldable pub blocked : Session → Sets → Bool
 unfolding any clash
-blocked s x = any (s .n) (λ j. executing s j && clash x (setsAt s j))
+blocked s x = any (s .n) (clashing s x)
 
 -- 'objects on which it clashes with at least one executing transaction'
 unfoldable pub contestedOn : Session → Sets → ℕ → Bool
@@ -28,6 +34,11 @@ unfoldable pub contestedCount : Session → Sets → ℕ
 unfolding count contestedOn
 contestedCount s x = count 256 (contestedOn s x)
 
+-- Request 3: 'the highest ranked executing task it clashes with'; 64, which is no task, where it clashes with none
+unfoldable pub highestClashing : Ranking → Session → Sets → ℕ
+unfolding foremost clash
+highestClashing rank s x = foremost (s .n) (clashing s x) (rankAt rank s)
+
 -- The same said plainly: there is an executing task below n with which it clashes, or with which it clashes on this object.
 abbrev pub Blocked : Session → Sets → Type 0
 Blocked s x = (j : ℕ) × (j < s .n) × (executing s j ≡ true) × Clash x (setsAt s j)
@@ -41,3 +52,17 @@ BlockedPlain = (s : Session) (x : Sets) → (blocked s x ≡ true → Blocked s 
 abbrev pub ContestedPlain : Type 0
 ContestedPlain =
     (s : Session) (x : Sets) (b : ℕ) → b < 256 → (contestedOn s x b ≡ true → ContestedOn s x b) × (ContestedOn s x b → contestedOn s x b ≡ true)
+
+-- Task i is the one that is named: it executes, it clashes, and no executing one that clashes ranks above it.
+pub record HighestClashing (rank : Ranking) (s : Session) (x : Sets) (i : ℕ) : Type 0 where
+  pub below : i < s .n
+  pub executes : executing s i ≡ true
+  pub clashes : Clash x (setsAt s i)
+  pub highest : (j : ℕ) → j < s .n → executing s j ≡ true → Clash x (setsAt s j) → ¬ (rankAt rank s j < rankAt rank s i)
+
+-- They agree, and there is exactly one: a transaction that clashes with an executing one has such a task, which the definition gives, and no other.
+abbrev pub HighestPlain : Type 0
+HighestPlain =
+    (rank : Ranking) → Strict rank → (s : Session) (x : Sets) → s .n ≤ 64
+    → (Blocked s x → HighestClashing rank s x (highestClashing rank s x))
+    × ((i : ℕ) → HighestClashing rank s x i → i ≡ highestClashing rank s x)

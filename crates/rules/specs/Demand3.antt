@@ -17,7 +17,7 @@ use Rattle.rules.specs.declared.State.the-variants.{Absent, Plain, Waiti
 use Rattle.rules.specs.declared.Session.{Session}
 use Rattle.rules.specs.declared.Event.{Event}
 use Rattle.rules.specs.declared.Answer.{Answer}
-use Rattle.rules.specs.Ranking.{Ranking}
+use Rattle.rules.specs.Ranking.{Ranking, Strict, Stays}
 use Rattle.rules.specs.Tasks.{isAbsent, waitOf, taskAt, stateAt, waiting, executing, setsAt}
 use Rattle.rules.specs.Setup.{setupNumber, fresh}
 use Rattle.rules.specs.Room.{room}
@@ -25,7 +25,7 @@ use Rattle.rules.specs.Contest.{Blocked}
 use Rattle.rules.specs.Scan.{noAdmission}
 use Rattle.rules.specs.Events.{step}
 use Rattle.rules.specs.Sum.{summed}
-use Rattle.rules.specs.Reachable.{Strict, Stays, Sound}
+use Rattle.rules.specs.Reachable.{Sound}
 use Rattle.rules.specs.History.{Call, heard, commits, Stage, absent, plain, waits, executes, stage, transaction, released, began, lasted, waitLength, passed, lastArrival, retried}
 
 -- ---- a run

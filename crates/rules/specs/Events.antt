@@ -19,7 +19,7 @@ use Rattle.rules.specs.declared.Answer.{Answer}
 use Rattle.rules.specs.Ranking.{Ranking}
 use Rattle.rules.specs.Tasks.{isAbsent, isPlain, isExecuting, taskAt, stateAt, waiting, setsAt, setsOf, known, inState, withTasks, withTask, withSets, stamped}
 use Rattle.rules.specs.Room.{room, ran}
-use Rattle.rules.specs.Contest.{blocked, lowestContested, contestedCount}
+use Rattle.rules.specs.Contest.{blocked, lowestContested, contestedCount, highestClashing}
 use Rattle.rules.specs.Scan.{none, scan}
 
 -- ---- 'Events try 1 to 7 in that order': the first that is given
@@ -93,14 +93,18 @@ releasedInto s tick i reads writes state =
 abbrev pub begins : ℕ → State
 begins tick = Waiting (record { release = tick; clashes = 0; retries = 0 })
 
--- 'It clashes with no executing transaction: it becomes executing. Otherwise it becomes waiting with retry count 0, the answer gives the lowest contested
--- object number, and how many objects are contested, and a scan follows.'
+-- 'the answer gives the lowest contested object number, and how many objects are contested'; request 3: 'shall also name the highest ranked executing task it clashes
+-- with'
+abbrev pub waitSaid : Ranking → Session → Sets → Said
+waitSaid rank s x = Wait (lowestContested s x) (contestedCount s x) (highestClashing rank s x)
+
+-- 'It clashes with no executing transaction: it becomes executing. Otherwise it becomes waiting with retry count 0, the answer gives' what it waits for, 'and a scan
+-- follows.'
 unfoldable pub releaseAccepted : Ranking → Session → ℕ → ℕ → List ℕ → List ℕ → Answer
-unfolding blocked lowestContested contestedCount scan
+unfolding blocked lowestContested contestedCount highestClashing scan
 releaseAccepted rank s tick i reads writes =
     let x = setsOf reads writes in
-    let wait = Wait (lowestContested s x) (contestedCount s x) in
-    let waits = scanning rank wait (releasedInto s tick i reads writes (begins tick)) in
+    let waits = scanning rank (waitSaid rank s x) (releasedInto s tick i reads writes (begins tick)) in
     let runs = still Run (releasedInto s tick i reads writes Executing) in
     cond (blocked s x) waits runs
 

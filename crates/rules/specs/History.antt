@@ -79,7 +79,7 @@ isFinish Finish = true
 abbrev pub isWait : Said → Bool
 isWait Ok = false
 isWait Run = false
-isWait (Wait b k) = true
+isWait (Wait b k j) = true
 isWait (No k) = false
 
 -- the call is an accepted event of task i, and of this kind

@@ -11,23 +11,14 @@ use Rattle.rules.specs.declared.Arrival.the-variants.{At}
 use Rattle.rules.specs.declared.Task.{Task}
 use Rattle.rules.specs.declared.Session.{Session}
 use Rattle.rules.specs.declared.Event.{Event}
+use Rattle.rules.specs.declared.Said.the-variants.{Wait}
 use Rattle.rules.specs.Answers.{number}
-use Rattle.rules.specs.Ranking.{Ranking}
-use Rattle.rules.specs.Tasks.{isAbsent, waitOf, taskAt, stateAt, waiting, executing, setsAt, noTask}
+use Rattle.rules.specs.Ranking.{Ranking, Strict, Stays}
+use Rattle.rules.specs.Tasks.{isAbsent, waitOf, taskAt, stateAt, waiting, executing, setsAt, setsOf, noTask}
 use Rattle.rules.specs.Setup.{setupNumber, fresh, termsNumber}
 use Rattle.rules.specs.Room.{room}
-use Rattle.rules.specs.Contest.{blocked}
+use Rattle.rules.specs.Contest.{blocked, HighestClashing}
 use Rattle.rules.specs.Events.{step}
-
--- ---- what is asked of a ranking
-
--- 'so the ranking is strict': no two tasks have one rank
-abbrev pub Strict : Ranking → Type 0
-Strict rank = (t u : Task) (i j : ℕ) → i < 64 → j < 64 → rank t i ≡ rank u j → i ≡ j
-
--- A rank stays while the job is present: it goes by the terms and the last arrival alone.
-abbrev pub Stays : Ranking → Type 0
-Stays rank = (t u : Task) (i : ℕ) → t .terms ≡ u .terms → t .arrival ≡ u .arrival → rank t i ≡ rank u i
 
 -- ---- the record
 
@@ -83,6 +74,9 @@ AcceptedOne =
 abbrev pub AdmittedFew : Type 0
 AdmittedFew = (rank : Ranking) (s : Session) (e : Event) → step rank s e .admitted .count ≤ s .m
 
--- the base's ranking is such a one
-abbrev pub PriorityStrict : Ranking → Type 0
-PriorityStrict rank = Strict rank × Stays rank
+-- Request 3: 'The clash answer shall also name the highest ranked executing task it clashes with', of any session of no more than 64 tasks: the task that an answer names
+-- is the one that is said plainly.
+abbrev pub WaitNames : Type 0
+WaitNames =
+    (rank : Ranking) → Strict rank → (s : Session) (e : Event) → s .n ≤ 64 → (b k i : ℕ) → step rank s e .said ≡ Wait b k i
+    → HighestClashing rank s (setsOf (e .reads) (e .writes)) i

@@ -1,22 +1,17 @@
 -- The scan: waiting tasks are looked at once each, highest rank first, and admitted where nothing stands against it.
 use Prim.Native.Nat.{ℕ, zero, suc, _+_}
-use mathlib.Core.Bool.{Bool, cond, not, _&&_, _||_}
-use lib.Dec.{eqb, leb, ltb}
+use mathlib.Core.Bool.{Bool, cond, not, _&&_}
+use lib.Dec.{eqb, leb}
 use lib.ListN.{set, replicate}
 use Rattle.rules.specs.declared.State.{State}
 use Rattle.rules.specs.declared.State.the-variants.{Executing}
 use Rattle.rules.specs.declared.Session.{Session}
 use Rattle.rules.specs.declared.Admission.{Admission}
 use Rattle.rules.specs.declared.Admissions.{Admissions}
-use Rattle.rules.specs.Ranking.{Ranking}
+use Rattle.rules.specs.Ranking.{Ranking, foremost}
 use Rattle.rules.specs.Tasks.{taskAt, stateAt, waitOf, waiting, setsAt, inState, withTask}
 use Rattle.rules.specs.Room.{rankAt, room}
 use Rattle.rules.specs.Contest.{blocked}
-
--- of the numbers below k that have f, the one with the least r; 64, which is no task, where none has
-unfoldable pub foremost : ℕ → (ℕ → Bool) → (ℕ → ℕ) → ℕ
-foremost zero f r = 64
-foremost (suc k) f r = cond (f k && (eqb (foremost k f r) 64 || ltb (r k) (r (foremost k f r)))) k (foremost k f r)
 
 -- the waiting task that is next in rank, of those whose rank is not below from
 unfoldable pub next : Ranking → Session → ℕ → ℕ

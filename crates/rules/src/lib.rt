@@ -71,12 +71,16 @@ pub struct Event {
     pub writes: [u64; 4],
 }
 
-// What is said of a setup or an event: accepted; a release that runs; one that waits, with the lowest contested object and how many are
-// contested; refused, with the number.
+// What is said of a setup or an event: accepted; a release that runs; one that waits, with the lowest contested object, how many are contested, and
+// whom it waits for, the highest ranked executing task that it clashes with; refused, with the number.
 pub enum Said {
     Ok,
     Run,
-    Wait { object: u8, contested: u16 },
+    Wait {
+        object: u8,
+        contested: u16,
+        whom: u8,
+    },
     No(u8),
 }
 

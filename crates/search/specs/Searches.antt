@@ -6,7 +6,7 @@ use lib.Dec.{eqb, leb, ltb}
 use lib.ListN.{getD}
 use Rattle.objects.specs.Below.{any, count}
 use Rattle.objects.specs.Objects.{clash, clashOn}
-use Rattle.rules.specs.Scan.{foremost}
+use Rattle.rules.specs.Ranking.{foremost}
 use Rattle.search.specs.Rows.{plainIn, waitingIn, executingIn, setsIn}
 
 -- the executing tasks and those with the code always; and of those with the code above the ones that rank above task i

@@ -21,14 +21,13 @@ use Rattle.rules.specs.declared.Said.{Said}
 use Rattle.rules.specs.declared.Admission.{Admission}
 use Rattle.rules.specs.declared.Answer.{Answer}
 use Rattle.rules.specs.Answers.{number}
-use Rattle.rules.specs.Ranking.{Ranking, byPriority}
+use Rattle.rules.specs.Ranking.{Ranking, byPriority, Strict, Stays}
 use Rattle.rules.specs.Tasks.{isWaiting, taskAt, stateAt}
 use Rattle.rules.specs.Setup.{fresh}
 use Rattle.rules.specs.Room.{ran}
 use Rattle.rules.specs.Events.{raisedState, raisedTask, step}
 use Rattle.rules.specs.Scan.{noAdmission, admission, Scanned}
 use Rattle.rules.specs.History.{Call, heard, tasksOf, isCommit, isRelease, isWait, began, lasted, waitLength}
-use Rattle.rules.specs.Reachable.{Strict, Stays}
 use Rattle.rules.specs.Demand3.{Start, Run, called, AdmissionsCount, Told}
 use Rattle.rules.proofs.Ranking.{priority-strict}
 use Rattle.rules.proofs.Laws.Alike.{at-or-other}
@@ -77,7 +76,7 @@ raised-ticks hadRun t false tick = refl
 own-ticks : {t u : Task} {e : Event} {said : Said} → Own t e said u → ticksOf (u .state) (e .tick) ≡ ticksOf (t .state) (e .tick)
 own-ticks {e = e} (arrives kind was late) = ap (λ (x : State). ticksOf x (e .tick)) (sym was)
 own-ticks {e = e} (runs kind was) = ap (λ (x : State). ticksOf x (e .tick)) (sym was)
-own-ticks {e = e} (waits kind was b k) = sub-self (e .tick) ∙ ap (λ (x : State). ticksOf x (e .tick)) (sym was)
+own-ticks {e = e} (waits kind was b k h) = sub-self (e .tick) ∙ ap (λ (x : State). ticksOf x (e .tick)) (sym was)
 own-ticks {e = e} (commits kind was) = ap (λ (x : State). ticksOf x (e .tick)) (sym was)
 own-ticks {e = e} (finishes kind was) = ap (λ (x : State). ticksOf x (e .tick)) (sym was)
 

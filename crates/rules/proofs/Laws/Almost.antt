@@ -12,11 +12,11 @@ use Rattle.rules.specs.declared.State.the-variants.{Executing}
 use Rattle.rules.specs.declared.Arrival.the-variants.{At}
 use Rattle.rules.specs.declared.Task.{Task}
 use Rattle.rules.specs.declared.Session.{Session}
-use Rattle.rules.specs.Ranking.{Ranking}
+use Rattle.rules.specs.Ranking.{Ranking, Strict, Stays}
 use Rattle.rules.specs.Tasks.{isAbsent, isWaiting, isExecuting, waitOf, taskAt, stateAt, waiting, executing, inState, noTask}
 use Rattle.rules.specs.Setup.{termsNumber}
 use Rattle.rules.specs.Scan.{scan}
-use Rattle.rules.specs.Reachable.{Strict, Stays, EmptyAt, Sound}
+use Rattle.rules.specs.Reachable.{EmptyAt, Sound}
 use Rattle.rules.proofs.Laws.Kept.{Kept, Apart, Held}
 use Rattle.rules.proofs.Laws.Keeping.{EachKept}
 use Rattle.rules.proofs.Laws.Scan.{scan-kept, scan-apart, scan-fits, scan-held}

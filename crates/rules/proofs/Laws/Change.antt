@@ -21,13 +21,13 @@ use Rattle.rules.specs.declared.State.the-variants.{Waiting}
 use Rattle.rules.specs.declared.Arrival.the-variants.{At}
 use Rattle.rules.specs.declared.Task.{Task}
 use Rattle.rules.specs.declared.Session.{Session}
-use Rattle.rules.specs.Ranking.{Ranking}
+use Rattle.rules.specs.Ranking.{Ranking, Strict, Stays}
 use Rattle.rules.specs.Tasks.{isAbsent, isPlain, isWaiting, isExecuting, waitOf, taskAt, stateAt, plain, waiting, executing, setsAt, noTask, withGroups}
 use Rattle.rules.specs.Setup.{termsNumber}
 use Rattle.rules.specs.Room.{rankAt, plainAbove, room}
 use Rattle.rules.specs.Contest.{blocked}
 use Rattle.rules.specs.Scan.{scan}
-use Rattle.rules.specs.Reachable.{Strict, Stays, EmptyAt, Sound}
+use Rattle.rules.specs.Reachable.{EmptyAt, Sound}
 use Rattle.rules.proofs.Laws.Kept.{Apart, Held}
 use Rattle.rules.proofs.Laws.Rows.{Agree, groups-length, groups-other, clash-agree}
 use Rattle.rules.proofs.Laws.Numbers.{Timely}

@@ -9,10 +9,10 @@ use lib.Dec.{eqb, leb, ltb}
 use borrow.Author.Tests.{eqb-true, eqb-false, ltb-true, ltb-false, leb-true, le-leb}
 use Rattle.objects.proofs.Laws.Below.{below-suc, not-both, or-cases, or-false-left, or-false-right, and-left, and-right, and-both, and-cases}
 use Rattle.rules.specs.declared.Session.{Session}
-use Rattle.rules.specs.Ranking.{Ranking}
+use Rattle.rules.specs.Ranking.{Ranking, foremost}
 use Rattle.rules.specs.Tasks.{waiting}
 use Rattle.rules.specs.Room.{rankAt}
-use Rattle.rules.specs.Scan.{foremost, next}
+use Rattle.rules.specs.Scan.{next}
 
 -- ---- foremost
 

@@ -8,12 +8,11 @@ use Rattle.objects.specs.Below.{count}
 use Rattle.objects.specs.Objects.{clash}
 use Rattle.rules.specs.declared.State.the-variants.{Executing}
 use Rattle.rules.specs.declared.Session.{Session}
-use Rattle.rules.specs.Ranking.{Ranking}
+use Rattle.rules.specs.Ranking.{Ranking, Strict, Stays}
 use Rattle.rules.specs.Tasks.{taskAt, waiting, executing, setsAt, inState}
 use Rattle.rules.specs.Room.{room}
 use Rattle.rules.specs.Contest.{blocked}
 use Rattle.rules.specs.Scan.{scan}
-use Rattle.rules.specs.Reachable.{Strict, Stays}
 
 pub record Kept (s s′ : Session) : Type 0 where
   pub m : s′ .m ≡ s .m

@@ -11,11 +11,10 @@ use Rattle.objects.specs.Below.{count}
 use Rattle.objects.proofs.Laws.Below.{below-or-from, not-both, not-true-false, and-left, and-right, and-both, count-less}
 use Rattle.rules.specs.declared.Task.{Task}
 use Rattle.rules.specs.declared.Session.{Session}
-use Rattle.rules.specs.Ranking.{Ranking}
+use Rattle.rules.specs.Ranking.{Ranking, Strict}
 use Rattle.rules.specs.Tasks.{isWaiting, taskAt, stateAt, waiting, executing}
 use Rattle.rules.specs.Room.{rankAt}
 use Rattle.rules.specs.Scan.{next, admissible, Scanned, admit, tried}
-use Rattle.rules.specs.Reachable.{Strict}
 use Rattle.rules.proofs.Laws.Kept.{Kept, Held}
 use Rattle.rules.proofs.Laws.Tasks.{waiting-not-executing}
 use Rattle.rules.proofs.Laws.Foremost.{ahead, Found, next-first}

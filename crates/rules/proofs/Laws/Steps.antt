@@ -12,13 +12,13 @@ use Rattle.rules.specs.declared.Session.{Session}
 use Rattle.rules.specs.declared.Kind.the-variants.{Arrive, Release, Commit, Finish}
 use Rattle.rules.specs.declared.Event.{Event}
 use Rattle.rules.specs.declared.Said.{Said}
-use Rattle.rules.specs.declared.Said.the-variants.{Ok, Run, Wait}
+use Rattle.rules.specs.declared.Said.the-variants.{Ok, Run}
 use Rattle.rules.specs.declared.Answer.{Answer}
 use Rattle.rules.specs.Answers.{number}
 use Rattle.rules.specs.Ranking.{Ranking}
 use Rattle.rules.specs.Tasks.{taskAt, setsOf, withTask, stamped}
-use Rattle.rules.specs.Contest.{blocked, lowestContested, contestedCount}
-use Rattle.rules.specs.Events.{arriveNumber, releaseNumber, commitNumber, finishNumber, refused, still, scanning, arrived, arrive, releasedInto, begins, release, committed, commit, finished, finish, step}
+use Rattle.rules.specs.Contest.{blocked}
+use Rattle.rules.specs.Events.{arriveNumber, releaseNumber, commitNumber, finishNumber, refused, still, scanning, arrived, arrive, releasedInto, begins, waitSaid, release, committed, commit, finished, finish, step}
 
 -- an answer that is accepted where its number is 0
 by-number : (k : ℕ) (s : Session) (accepts : Answer) (P : Answer → Type 0) → (k ≡ 0 → P accepts) → (k ≢ 0 → P (refused s k))
@@ -52,8 +52,7 @@ module _ (P : Answer → Type 0) (s : Session) (refuses : (k : ℕ) → k ≢ 0 
     module _ (reads writes : List ℕ) where
       abbrev waits : Answer
       waits =
-          scanning rank (Wait (lowestContested s (setsOf reads writes)) (contestedCount s (setsOf reads writes)))
-          (releasedInto s tick i reads writes (begins tick))
+          scanning rank (waitSaid rank s (setsOf reads writes)) (releasedInto s tick i reads writes (begins tick))
 
       abbrev runs : Answer
       runs = still Run (releasedInto s tick i reads writes Executing)
@@ -103,7 +102,7 @@ outcome rank s e P refuses stays scans =
     step-cases rank s e P
     (λ kind. arrive-cases P s refuses (e .tick) (e .task) (λ z. stays Ok _ refl (record { m = refl; accepted = refl; tick = refl })))
     (λ kind. release-cases P s refuses (e .tick) (e .task) rank (e .reads) (e .writes)
-    (λ z b. scans (Wait (lowestContested s (setsOf (e .reads) (e .writes))) (contestedCount s (setsOf (e .reads) (e .writes)))) _ refl (record { m = refl; accepted = refl; tick = refl }))
+    (λ z b. scans (waitSaid rank s (setsOf (e .reads) (e .writes))) _ refl (record { m = refl; accepted = refl; tick = refl }))
     (λ z b. stays Run _ refl (record { m = refl; accepted = refl; tick = refl })))
     (λ kind. commit-cases P s refuses (e .tick) (e .task) rank (λ z. scans Ok (committed rank s (e .tick) (e .task)) refl (record { m = refl; accepted = refl; tick = refl })))
     (λ kind. finish-cases P s refuses (e .tick) (e .task) rank (λ z. scans Ok (withTask (stamped s (e .tick)) (e .task) (finished (taskAt s (e .task)))) refl (record { m = refl; accepted = refl; tick = refl })))

@@ -13,7 +13,7 @@ use Rattle.objects.specs.Below.{any}
 use Rattle.objects.specs.Objects.{clash, groupContested}
 use Rattle.objects.proofs.Laws.Below.{any-more, any-at}
 use Rattle.objects.proofs.Laws.Clash.{clash-groups}
-use Rattle.rules.specs.Scan.{foremost}
+use Rattle.rules.specs.Ranking.{foremost}
 use Rattle.search.specs.declared.clash.Group.{Group}
 use Rattle.search.specs.Rows.{setsIn, groupIn}
 

@@ -16,7 +16,7 @@ use Rattle.objects.specs.Objects.{Sets, clash, clashOn}
 use Rattle.objects.proofs.Laws.Below.{below-or-from, any-more, any-none, count-more}
 use Rattle.objects.proofs.Laws.Sets.{has-none}
 use Rattle.objects.proofs.Laws.Clash.{empty-agrees}
-use Rattle.rules.specs.Scan.{foremost}
+use Rattle.rules.specs.Ranking.{foremost}
 use Rattle.search.specs.Rows.{filled, setsIn, executingIn}
 
 -- what grows no more from size on is at n what it is at n or size, whichever is less

@@ -17,12 +17,12 @@ use Rattle.rules.specs.declared.State.{State}
 use Rattle.rules.specs.declared.State.the-variants.{Absent, Plain, Waiting, Executing}
 use Rattle.rules.specs.declared.Task.{Task}
 use Rattle.rules.specs.declared.Session.{Session}
-use Rattle.rules.specs.Ranking.{byPriority}
+use Rattle.rules.specs.Ranking.{byPriority, foremost}
 use Rattle.rules.specs.Tasks.{isPlain, isWaiting, isExecuting, noTask, stateAt, plain, waiting, executing, setsAt, inState}
 use Rattle.rules.specs.Room.{plainAbove, room, waitingAbove, ran}
 use Rattle.rules.specs.Room as rooms
 use Rattle.rules.specs.Contest.{blocked, contestedOn}
-use Rattle.rules.specs.Scan.{foremost, next, admissible}
+use Rattle.rules.specs.Scan.{next, admissible}
 use Rattle.rules.proofs.Laws.Foremost.{ahead, foremost-found}
 use Rattle.rules.proofs.Laws.Alike.{at-or-other}
 use Rattle.search.specs.declared.Rows.{Rows}

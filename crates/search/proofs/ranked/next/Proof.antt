@@ -11,7 +11,7 @@ use lib.ListN.{length, getD}
 use borrow.Author.Needs.{needs}
 use borrow.Author.Tests.{eq-eqb, ne-eqb, le-leb, lt-leb}
 use Rattle.objects.proofs.Laws.Below.{and-both, or-left, or-right}
-use Rattle.rules.specs.Scan.{foremost}
+use Rattle.rules.specs.Ranking.{foremost}
 use Rattle.search.specs.Rows.{waitingIn}
 use Rattle.search.specs.Searches.{nextIn}
 use Rattle.search.proofs.Laws.Past.{absent-past, foremost-held}

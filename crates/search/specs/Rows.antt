@@ -5,7 +5,7 @@ use mathlib.Core.List.{List}
 use mathlib.Core.Bool.{Bool}
 use lib.Dec.{eqb}
 use lib.ListN.{getD, set, replicate}
-use Rattle.objects.specs.Objects.{Sets, groupsAt}
+use Rattle.objects.specs.Objects.{Sets, groupsAt, contestedWord}
 use Rattle.rules.specs.declared.State.{State}
 use Rattle.rules.specs.declared.State.the-variants.{Absent, Plain, Waiting, Executing}
 use Rattle.rules.specs.declared.Task.{Task}
@@ -62,3 +62,7 @@ groupIn reads writes i j g = record {
   «other_reads» = getD reads (j * 4 + g) 0;
   «other_writes» = getD writes (j * 4 + g) 0;
 }
+
+-- the objects of one group on which its two transactions clash
+abbrev pub wordIn : Group → ℕ
+wordIn x = contestedWord (x .reads) (x .writes) (x .«other_reads») (x .«other_writes»)

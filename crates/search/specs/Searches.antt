@@ -34,15 +34,24 @@ ranIn codes ranks n m i =
     let above = count n (λ j. waitingIn codes j && ltb (getD ranks j 0) (getD ranks i 0)) in
     ltb (count n (executingIn codes) + count n (plainIn codes) + above) m
 
+-- task j executes, and the transaction of task i clashes with its
+abbrev pub clashingIn : List ℕ → List ℕ → List ℕ → ℕ → ℕ → Bool
+clashingIn codes reads writes i j = executingIn codes j && clash (setsIn reads writes i) (setsIn reads writes j)
+
 -- the transaction of task i clashes with an executing one
 unfoldable pub blockedIn : List ℕ → List ℕ → List ℕ → ℕ → ℕ → Bool
 unfolding any clash
-blockedIn codes reads writes n i = any n (λ j. executingIn codes j && clash (setsIn reads writes i) (setsIn reads writes j))
+blockedIn codes reads writes n i = any n (clashingIn codes reads writes i)
 
 -- it clashes with an executing one on object b
 unfoldable pub contestedIn : List ℕ → List ℕ → List ℕ → ℕ → ℕ → ℕ → Bool
 unfolding any clashOn
 contestedIn codes reads writes n i b = any n (λ j. executingIn codes j && clashOn (setsIn reads writes i) (setsIn reads writes j) b)
+
+-- 'the highest ranked executing task it clashes with'; 64 where there is none
+unfoldable pub highestIn : List ℕ → List ℕ → List ℕ → List ℕ → ℕ → ℕ → ℕ
+unfolding foremost clash
+highestIn codes ranks reads writes n i = foremost n (clashingIn codes reads writes i) (λ j. getD ranks j 0)
 
 -- the waiting task that is next in rank, of those whose rank is not below from; 64 where there is none
 unfoldable pub nextIn : List ℕ → List ℕ → ℕ → ℕ → ℕ

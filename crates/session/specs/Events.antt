@@ -1,15 +1,19 @@
--- What the private functions of the events go by: a session of which only a part is handed on, a release that no number refuses, and what a scan gives.
+-- What the private functions of the events go by: a session of which only a part is handed on, what a scan gives, what is said of a wait, and a release that no number
+-- refuses.
 use Prim.Native.Nat.{ℕ, _≤_, _<_}
 use mathlib.Core.Path.{_≡_}
 use mathlib.Core.List.{List, []}
-use lib.ListN.{getD}
+use Rattle.objects.specs.Objects.{groupsAt, lowestObject, howMany}
 use Rattle.rules.specs.declared.State.the-variants.{Plain}
 use Rattle.rules.specs.declared.Task.{Task}
 use Rattle.rules.specs.declared.Session.{Session}
+use Rattle.rules.specs.declared.Said.{Said}
+use Rattle.rules.specs.declared.Said.the-variants.{Wait}
 use Rattle.rules.specs.Ranking.{byPriority}
 use Rattle.rules.specs.Tasks.{taskAt, stateAt}
 use Rattle.rules.specs.Scan.{scan}
-use Rattle.search.specs.Rows.{code}
+use Rattle.search.specs.declared.Rows.{Rows}
+use Rattle.search.specs.Rows.{rowsOf}
 use Rattle.session.specs.declared.scan.Scan.{Scan}
 
 -- a session with these numbers and tasks, and no sets: what refuses an event goes by no more
@@ -26,12 +30,16 @@ scanIn m n tasks reads writes =
     let x = scan byPriority (tabled m n tasks reads writes) in
     record { admitted = x .admitted; tasks = x .session .tasks }
 
--- the codes are those of the session, m and n are allowed, and task i is plain, below n, and has a release left
-pub record Releasable (s : Session) (codes : List ℕ) (i : ℕ) : Type 0 where
+-- what is said of a release that waits for these objects, as four words, and for this task
+abbrev pub waitIn : List ℕ → ℕ → Said
+waitIn words whom = Wait (lowestObject (groupsAt words 0)) (howMany (groupsAt words 0)) whom
+
+-- the rows are those of the session, m and n are allowed, and task i is plain, below n, and has a release left
+pub record Releasable (s : Session) (rows : Rows) (i : ℕ) : Type 0 where
   pub m-high : s .m ≤ 16
   pub n-high : s .n ≤ 64
   pub below : i < s .n
-  pub code-is : (j : ℕ) → j < s .n → getD codes j 0 ≡ code (stateAt s j)
+  pub rows-are : rows ≡ rowsOf (s .tasks) (s .n)
   pub plain : stateAt s i ≡ Plain
   pub left : taskAt s i .releases < taskAt s i .terms .transactions
   pub accepted : s .accepted < 1000000

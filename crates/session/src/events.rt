@@ -6,7 +6,7 @@ ghost use Rattle.rules.specs.Ranking.{byPriority};
 ghost use Rattle.rules.specs.Tasks.{known};
 ghost use Rattle.rules.specs.Events.{trying, finishNumber, early, refused, arrive, releaseAccepted, release, commit, finish, step};
 ghost use Rattle.search.specs.Rows.{rowsOf};
-ghost use Rattle.session.specs.Events.{numbered, Releasable};
+ghost use Rattle.session.specs.Events.{numbered, waitIn, Releasable};
 use crate::rows::in_state;
 use crate::rows::is_waiting;
 use crate::rows::no_admissions;
@@ -25,12 +25,13 @@ use rules::State;
 use rules::Task;
 use rules::Wait;
 use search::Rows;
+use search::WaitsFor;
 use search::blocked;
 use search::clash_of;
-use search::contested;
 use search::ran;
 use search::room;
 use search::rows_of;
+use search::waits_for;
 
 // Whether m and n are allowed and the task is below n.
 pub(crate) fn known(m: u8, n: u8, task: u8) -> bool
@@ -141,16 +142,28 @@ pub fn arrive(mut s: Session, tick: u32, task: u8) -> Answer
     }
 }
 
+// What is said of a release that waits for this.
+fn wait_said(found: WaitsFor) -> Said
+    ensures { λ said. ⌜ said ≡ waitIn (found .words) (found .whom) ⌝ }
+{
+    let words = found.words;
+    Said::Wait {
+        object: objects::lowest_object(words),
+        contested: objects::how_many(words),
+        whom: found.whom,
+    }
+}
+
 // A release that no number refuses: its sets are put where they lie, and it runs or waits.
 fn released(
     mut s: Session,
-    codes: [u8; 64],
+    rows: Rows,
     tick: u32,
     i: usize,
     reads: Groups,
     writes: Groups,
 ) -> Answer
-    requires { ⌜ Releasable s codes i ⌝ }
+    requires { ⌜ Releasable s rows i ⌝ }
     ensures { λ answer. ⌜ answer ≡ releaseAccepted byPriority s tick i reads writes ⌝ }
 {
     let n = s.n;
@@ -159,12 +172,9 @@ fn released(
     s.accepted = s.accepted + 1;
     put_groups(&mut s.reads, i, reads);
     put_groups(&mut s.writes, i, writes);
-    if blocked(&codes, &s.reads, &s.writes, n, i) {
-        let words = contested(&codes, &s.reads, &s.writes, n, i);
-        let said = Said::Wait {
-            object: objects::lowest_object(words),
-            contested: objects::how_many(words),
-        };
+    if blocked(&rows.codes, &s.reads, &s.writes, n, i) {
+        let found = waits_for(&rows.codes, &rows.ranks, &s.reads, &s.writes, n, i);
+        let said = wait_said(found);
         let wait = Wait {
             release: tick,
             clashes: 0,
@@ -206,8 +216,7 @@ pub fn release(s: Session, tick: u32, task: u8, reads: Groups, writes: Groups) -
     if terms.transactions <= t.releases {
         return refuse(s, 7);
     }
-    let codes = rows.codes;
-    released(s, codes, tick, i, reads, writes)
+    released(s, rows, tick, i, reads, writes)
 }
 
 // An executing transaction ends: those that waited and clash with it have been passed over once more, some of them while they ran, and a scan follows.

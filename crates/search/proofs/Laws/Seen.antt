@@ -1,5 +1,5 @@
 -- What is read off the rows of a session's codes and ranks is what the rules say of the session. The codes alone tell who executes, waits and is plain, and so
--- who is blocked; with the ranks they tell who has room, who ran, who is next and who is admissible. The rows stay right where a task is replaced and its code with it.
+-- who is blocked; with the ranks they tell who has room, who ran, who is next, who is admissible and whom one waits for. The rows stay right where a task is replaced and its code with it.
 use Prim.Native.Nat.{ℕ, zero, suc, _≤_, _<_}
 use mathlib.Core.Path.{_≡_, refl, sym, ap, _∙_}
 use mathlib.Core.List.{List}
@@ -21,13 +21,13 @@ use Rattle.rules.specs.Ranking.{byPriority, foremost}
 use Rattle.rules.specs.Tasks.{isPlain, isWaiting, isExecuting, noTask, stateAt, plain, waiting, executing, setsAt, inState}
 use Rattle.rules.specs.Room.{plainAbove, room, waitingAbove, ran}
 use Rattle.rules.specs.Room as rooms
-use Rattle.rules.specs.Contest.{blocked, contestedOn}
+use Rattle.rules.specs.Contest.{clashing, blocked, contestedOn, highestClashing}
 use Rattle.rules.specs.Scan.{next, admissible}
 use Rattle.rules.proofs.Laws.Foremost.{ahead, foremost-found}
 use Rattle.rules.proofs.Laws.Alike.{at-or-other}
 use Rattle.search.specs.declared.Rows.{Rows}
 use Rattle.search.specs.Rows.{code, filled, codeAt, rankAt, rowsOf, plainIn, waitingIn, executingIn}
-use Rattle.search.specs.Searches.{roomIn, ranIn, blockedIn, contestedIn, nextIn, admissibleIn}
+use Rattle.search.specs.Searches.{roomIn, ranIn, clashingIn, blockedIn, contestedIn, highestIn, nextIn, admissibleIn}
 use Rattle.search.proofs.Laws.Past.{filled-size}
 use Rattle.search.proofs.Laws.Loops.{filled-more}
 
@@ -143,6 +143,13 @@ module _ (s : Session) (codes ranks : List ℕ) (seen : SeenTasks (s .tasks) (s 
     where
       above : (j : ℕ) → j < s .n → (waitingIn codes j && ltb (getD ranks j 0) (getD ranks i 0)) ≡ waitingAbove byPriority s i j
       above j h = rw (waiting-seen s codes (seen .code-is) j h, seen .rank-is j h, seen .rank-is i l)
+
+  pub highest-seen : (i : ℕ) → highestIn codes ranks (s .reads) (s .writes) (s .n) i ≡ highestClashing byPriority s (setsAt s i)
+  unfolding highestIn highestClashing
+  highest-seen i =
+      foremost-ext (s .n) (clashingIn codes (s .reads) (s .writes) i) (clashing s (setsAt s i)) (λ j. getD ranks j 0) (rooms.rankAt byPriority s)
+      (λ j h. rw (executing-seen s codes (seen .code-is) j h))
+      (seen .rank-is)
 
   pub next-seen : (from : ℕ) → nextIn codes ranks (s .n) from ≡ next byPriority s from
   unfolding nextIn next

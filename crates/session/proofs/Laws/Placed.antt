@@ -1,5 +1,5 @@
 -- A release asks its questions with its sets already put where they lie: the answers are those of the session as it was, since the task itself does not execute
--- and the other tasks' sets are untouched. The contested objects come as four words, which tell the lowest of them and how many they are.
+-- and the other tasks' sets are untouched. The contested objects come as four words, which tell the lowest of them and how many they are, and with them whom it waits for.
 use Prim.Native.Nat.{ℕ, _+_, _*_, _/_, _%_, _<_}
 use mathlib.Core.Path.{_≡_, refl, sym, ap, ap₂, _∙_}
 use mathlib.Core.Logic.{_≢_}
@@ -16,17 +16,18 @@ use Rattle.objects.proofs.Laws.Sets.{has-group, lowest-some}
 use Rattle.rules.specs.declared.State.{State}
 use Rattle.rules.specs.declared.State.the-variants.{Executing}
 use Rattle.rules.specs.declared.Session.{Session}
-use Rattle.rules.specs.declared.Said.the-variants.{Run, Wait}
-use Rattle.rules.specs.declared.Answer.{Answer}
+use Rattle.rules.specs.declared.Said.{Said}
+use Rattle.rules.specs.declared.Said.the-variants.{Run}
 use Rattle.rules.specs.Ranking.{byPriority}
 use Rattle.rules.specs.Tasks.{isExecuting, taskAt, stateAt, executing, setsAt, setsOf, withGroups}
-use Rattle.rules.specs.Contest.{blocked, contestedOn, lowestContested, contestedCount}
-use Rattle.rules.specs.Events.{still, scanning, released, releasedInto, begins, releaseAccepted}
+use Rattle.rules.specs.Contest.{blocked, contestedOn, lowestContested, contestedCount, highestClashing}
+use Rattle.rules.specs.Events.{still, scanning, released, releasedInto, begins, waitSaid, releaseAccepted}
 use Rattle.rules.proofs.Laws.Rows.{groups-same, groups-other, Agree, clash-is, on-agree, clash-agree}
+use Rattle.search.specs.declared.Rows.{Rows}
 use Rattle.search.specs.Rows.{executingIn, setsIn}
-use Rattle.search.specs.Searches.{blockedIn, contestedIn}
-use Rattle.search.proofs.Laws.Seen.{executing-seen}
-use Rattle.session.specs.Events.{Releasable}
+use Rattle.search.specs.Searches.{blockedIn, contestedIn, highestIn}
+use Rattle.search.proofs.Laws.Seen.{SeenTasks, seen-rows, executing-seen, foremost-ext}
+use Rattle.session.specs.Events.{waitIn, Releasable}
 use Rattle.session.proofs.Laws.Given.{Sizes}
 
 -- ---- the contested objects as four words
@@ -56,6 +57,14 @@ contested-is : (s : Session) (x : Sets) (b : ℕ) → contestedOn s x b ≡ any 
 unfolding contestedOn
 contested-is s x b = refl
 
+lowest-is : (s : Session) (x : Sets) → lowestContested s x ≡ least 256 (contestedOn s x)
+unfolding lowestContested
+lowest-is s x = refl
+
+count-is : (s : Session) (x : Sets) → contestedCount s x ≡ count 256 (contestedOn s x)
+unfolding contestedCount
+count-is s x = refl
+
 blocked-contested : (s : Session) (x : Sets) → blocked s x ≡ true → any 256 (contestedOn s x) ≡ true
 blocked-contested s x e =
     let task = any-witness (s .n) (λ j. executing s j && clash x (setsAt s j)) (sym (blocked-is s x) ∙ e) in
@@ -68,24 +77,18 @@ blocked-contested s x e =
 
 -- ---- the answer to a release
 
--- the answer to a release that waits, with the session after it
-abbrev waitingAnswer : ℕ → ℕ → Session → Answer
-waitingAnswer low many s = scanning byPriority (Wait low many) s
-
 -- the definition's two cases
 accepted-is : (s : Session) (tick i : ℕ) (reads writes : List ℕ) (b : Bool) → blocked s (setsOf reads writes) ≡ b
     → releaseAccepted byPriority s tick i reads writes
     ≡ cond b
-    (waitingAnswer (least 256 (contestedOn s (setsOf reads writes))) (count 256 (contestedOn s (setsOf reads writes)))
-    (releasedInto s tick i reads writes (begins tick)))
+    (scanning byPriority (waitSaid byPriority s (setsOf reads writes)) (releasedInto s tick i reads writes (begins tick)))
     (still Run (releasedInto s tick i reads writes Executing))
-unfolding releaseAccepted lowestContested contestedCount
+unfolding releaseAccepted
 accepted-is s tick i reads writes b e =
     ap
     (λ (x : Bool).
     cond x
-    (waitingAnswer (least 256 (contestedOn s (setsOf reads writes))) (count 256 (contestedOn s (setsOf reads writes)))
-    (releasedInto s tick i reads writes (begins tick)))
+    (scanning byPriority (waitSaid byPriority s (setsOf reads writes)) (releasedInto s tick i reads writes (begins tick)))
     (still Run (releasedInto s tick i reads writes Executing)))
     e
 
@@ -104,11 +107,11 @@ withRows s tick i state rs ws = record {
 -- rs and ws are the rows with the sets of the release put in
 module _
     (s : Session)
-    (codes : List ℕ)
+    (rows : Rows)
     (i : ℕ)
     (reads writes rs ws : List ℕ)
     (sizes : Sizes s)
-    (ready : Releasable s codes i)
+    (ready : Releasable s rows i)
     (put-reads : rs ≡ withGroups (s .reads) i reads)
     (put-writes : ws ≡ withGroups (s .writes) i writes)
   where
@@ -139,11 +142,14 @@ module _
       writes = other-place (s .writes) writes ws put-writes j d;
     }
 
+    -- the rows are the session's
+    seen : SeenTasks (s .tasks) (s .n) (rows .codes) (rows .ranks)
+    seen = seen-rows (s .tasks) (s .n) rows (ready .n-high) (ready .rows-are)
+
     -- whatever goes by the groups alone is asked of the same executing tasks with the same answers
-    placed : (P : Sets → Sets → Bool) → ((x y z v : Sets) → Agree x z → Agree y v → P x y ≡ P z v)
-        → any (s .n) (λ j. executingIn codes j && P (setsIn rs ws i) (setsIn rs ws j))
-        ≡ any (s .n) (λ j. executing s j && P (setsOf reads writes) (setsAt s j))
-    placed P agree = any-ext (s .n) _ _ (λ j l. rw (executing-seen s codes (ready .code-is) j l) (same j (executing s j) refl))
+    placed : (P : Sets → Sets → Bool) → ((x y z v : Sets) → Agree x z → Agree y v → P x y ≡ P z v) → (j : ℕ) → j < s .n
+        → (executingIn (rows .codes) j && P (setsIn rs ws i) (setsIn rs ws j)) ≡ (executing s j && P (setsOf reads writes) (setsAt s j))
+    placed P agree j l = rw (executing-seen s (rows .codes) (seen .code-is) j l) (same j (executing s j) refl)
       where
         same : (j : ℕ) (b : Bool) → executing s j ≡ b
             → (b && P (setsIn rs ws i) (setsIn rs ws j)) ≡ (b && P (setsOf reads writes) (setsAt s j))
@@ -152,27 +158,32 @@ module _
             (other-sets j (λ equal. false≢true (sym (ap isExecuting (ap (λ (k : ℕ). stateAt s k) equal ∙ ready .plain)) ∙ e)))
         same j false e = refl
 
-    blocked-placed : blockedIn codes rs ws (s .n) i ≡ blocked s (setsOf reads writes)
+    blocked-placed : blockedIn (rows .codes) rs ws (s .n) i ≡ blocked s (setsOf reads writes)
     unfolding blockedIn blocked
-    blocked-placed = placed clash clash-agree
+    blocked-placed = any-ext (s .n) _ _ (placed clash clash-agree)
 
-    contested-placed : (b : ℕ) → b < 256 → contestedIn codes rs ws (s .n) i b ≡ contestedOn s (setsOf reads writes) b
+    contested-placed : (b : ℕ) → b < 256 → contestedIn (rows .codes) rs ws (s .n) i b ≡ contestedOn s (setsOf reads writes) b
     unfolding contestedIn contestedOn
-    contested-placed b l = placed (λ x y. clashOn x y b) (λ x y z v p q. on-agree x y z v p q b l)
+    contested-placed b l = any-ext (s .n) _ _ (placed (λ x y. clashOn x y b) (λ x y z v p q. on-agree x y z v p q b l))
 
-    pub released-runs : (tick : ℕ) → blockedIn codes rs ws (s .n) i ≡ false
+    highest-placed : highestIn (rows .codes) (rows .ranks) rs ws (s .n) i ≡ highestClashing byPriority s (setsOf reads writes)
+    unfolding highestIn highestClashing
+    highest-placed = foremost-ext (s .n) _ _ _ _ (placed clash clash-agree) (seen .rank-is)
+
+    pub released-runs : (tick : ℕ) → blockedIn (rows .codes) rs ws (s .n) i ≡ false
         → still Run (withRows s tick i Executing rs ws) ≡ releaseAccepted byPriority s tick i reads writes
     released-runs tick e =
         ap₂ (λ (x y : List ℕ). still Run (withRows s tick i Executing x y)) put-reads put-writes
         ∙ sym (accepted-is s tick i reads writes false (sym blocked-placed ∙ e))
 
-    pub released-waits : (tick : ℕ) (words : List ℕ) (low many : ℕ) → blockedIn codes rs ws (s .n) i ≡ true
-        → ((g : ℕ) → g < 4 → getD words g 0 ≡ word 64 (λ b. contestedIn codes rs ws (s .n) i (g * 64 + b)))
-        → low ≡ lowestObject (groupsAt words 0) → many ≡ howMany (groupsAt words 0)
-        → waitingAnswer low many (withRows s tick i (begins tick) rs ws) ≡ releaseAccepted byPriority s tick i reads writes
-    released-waits tick words low many e each l m =
-        ap₂ (λ (x y : ℕ). waitingAnswer x y (withRows s tick i (begins tick) rs ws)) low-is many-is
-        ∙ ap₂ (λ (x y : List ℕ). waitingAnswer (least 256 f) (count 256 f) (withRows s tick i (begins tick) x y)) put-reads put-writes
+    pub released-waits : (tick : ℕ) (words : List ℕ) (whom : ℕ) (said : Said) → blockedIn (rows .codes) rs ws (s .n) i ≡ true
+        → ((g : ℕ) → g < 4 → getD words g 0 ≡ word 64 (λ b. contestedIn (rows .codes) rs ws (s .n) i (g * 64 + b)))
+        → whom ≡ highestIn (rows .codes) (rows .ranks) rs ws (s .n) i → said ≡ waitIn words whom
+        → scanning byPriority said (withRows s tick i (begins tick) rs ws)
+        ≡ releaseAccepted byPriority s tick i reads writes
+    released-waits tick words whom said e each h p =
+        ap (λ (said : Said). scanning byPriority said (withRows s tick i (begins tick) rs ws)) (p ∙ said-is)
+        ∙ ap₂ (λ (x y : List ℕ). scanning byPriority (waitSaid byPriority s (setsOf reads writes)) (withRows s tick i (begins tick) x y)) put-reads put-writes
         ∙ sym (accepted-is s tick i reads writes true waits)
       where
         f : ℕ → Bool
@@ -184,8 +195,11 @@ module _
         held : (g : ℕ) → g < 4 → getD words g 0 ≡ word 64 (λ b. f (g * 64 + b))
         held g h = each g h ∙ word-ext 64 _ _ (λ b k. contested-placed (g * 64 + b) (omega arith))
 
-        low-is : low ≡ least 256 f
-        low-is = l ∙ lowest-each words f held (blocked-contested s (setsOf reads writes) waits)
+        low-is : lowestObject (groupsAt words 0) ≡ lowestContested s (setsOf reads writes)
+        low-is = lowest-each words f held (blocked-contested s (setsOf reads writes) waits) ∙ sym (lowest-is s (setsOf reads writes))
 
-        many-is : many ≡ count 256 f
-        many-is = m ∙ many-each words f held
+        many-is : howMany (groupsAt words 0) ≡ contestedCount s (setsOf reads writes)
+        many-is = many-each words f held ∙ sym (count-is s (setsOf reads writes))
+
+        said-is : waitIn words whom ≡ waitSaid byPriority s (setsOf reads writes)
+        said-is = rw (low-is, many-is, h, highest-placed)

@@ -4,7 +4,6 @@ use native.Mathlib.Omega.{arith}
 use borrow.Author.Needs.{needs}
 use Rattle.rules.specs.Ranking.{byPriority}
 use Rattle.rules.specs.Events.{finishNumber}
-use Rattle.search.proofs.Laws.Seen.{seen-rows}
 use Rattle.session.proofs.Laws.Numbers.{Plainly, plainly, number-whole, release-refused, release-used, release-accepted}
 use Rattle.session.proofs.events.release.Statement.{statement}
 use Rattle.session.proofs.events.release.Tie as tie
@@ -59,23 +58,22 @@ returns-2 c =
 
 released-requires : tie.Need-released-requires
 released-requires c κs =
-    let none = tried-all (c .before .before) in
+    let none = tried-all (c .before) in
     let rows = none .before .before in
-    let s = rows .before .before .args .t1 in
     let p = past none .passed-all in
     record {
       m-high = p .m-high;
       n-high = p .n-high;
       below = p .below;
-      code-is = seen-rows (s .tasks) (s .n) (rows .rows-of .result) (p .n-high) (rows .rows-of .ensures) .code-is;
+      rows-are = rows .rows-of .ensures;
       plain = past none .plain;
-      left = c .before .if2 .left;
+      left = c .if2 .left;
       accepted = p .accepted;
     }
 
 returns-3 : tie.Need-returns-3
 returns-3 c =
-    let left = c .before .before in
+    let left = c .before in
     let none = tried-all (left .before) in
     let tried = none .before in
     let a = tried .before .before .before .args in

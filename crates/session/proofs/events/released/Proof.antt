@@ -11,9 +11,16 @@ use Rattle.session.proofs.Laws.Placed.{released-runs, released-waits}
 use Rattle.session.proofs.events.released.Statement.{statement}
 use Rattle.session.proofs.events.released.Tie as tie
 
--- where the function begins
+-- where the function begins, and where it has asked whether it is blocked
 abbrev start-of : tie.After-blocked → tie.Start
-start-of c = c .before .before .before .before .before .before .before .before .before .before
+start-of c = c .before .before .before .before .before .before .before .before .before .before .before
+
+abbrev asked-of : tie.After-waits-for → tie.After-blocked
+asked-of c = c .before .before .before .before .before .before .before .before
+
+-- task i has a place in the table
+placed : (c : tie.After-waits-for) → start-of (asked-of c) .args .i < 64
+placed c = omega (arith, start-of (asked-of c) .pre)
 
 -- a release is left, and a task has no more than 255
 releases-few : (c : tie.After-blocked) → taskAt (start-of c .args .t1) (start-of c .args .i) .releases < 255
@@ -38,45 +45,41 @@ put-groups-requires-2 c κs = search needs
 blocked-requires : tie.Need-blocked-requires
 blocked-requires c κs = search needs
 
-contested-requires : tie.Need-contested-requires
-contested-requires c κs = search needs
+waits-for-requires : tie.Need-waits-for-requires
+waits-for-requires c κs = search needs
 
-lowest-object-requires : tie.Need-lowest-object-requires
-lowest-object-requires c κs = search needs
-
-how-many-requires : tie.Need-how-many-requires
-how-many-requires c κs = search needs
+wait-said-requires : tie.Need-wait-said-requires
+wait-said-requires c κs = search needs
 
 with-release-requires : tie.Need-with-release-requires
-with-release-requires c κs = releases-few (c .before .before .before .before .before .before .before .before)
+with-release-requires c κs = releases-few (asked-of (c .before))
 
-mul-t38 : tie.Need-mul-t38
-mul-t38 c = search needs
+mul-t37 : tie.Need-mul-t37
+mul-t37 c = search (needs, placed (c .before .before))
 
 element-set-from-s : tie.Need-element-set-from-s
-element-set-from-s c = search needs
+element-set-from-s c = placed (c .before .before)
 
 scan-of-requires : tie.Need-scan-of-requires
 scan-of-requires c κs =
-    let start = start-of (c .before .before .before .before .before .before .before .before .before .before .before .before .before) in
-    (start .pre .n-high, start .pre .m-high)
+    let ready = start-of (asked-of (c .before .before .before .before .before .before)) .pre in (ready .n-high, ready .m-high)
 
 returns : tie.Need-returns
 returns c =
     let scanned = c .before .before in
     let new = scanned .before .before .before .before .before in
-    let found = new .before .before .before in
-    let asked = found .before .before .before .before .before .before in
-    let put = asked .before .before .before .before .before in
+    let found = new .before .before in
+    let asked = asked-of found in
+    let put = asked .before .before .before .before .before .before in
     let start = start-of asked in
     let a = start .args in
     scanned-is _ _ (scanned .scan-of .result) (rw (new .with-release .ensures) at (scanned .scan-of .ensures))
     ∙ released-waits (a .t1) (a .t2) (a .i) (a .reads) (a .writes) _ _ (sizes (a .t1) _ (start .good .0)) (start .pre)
-    (put .before .before .put-groups .ensures) (put .put-groups2 .ensures) (a .tick) (found .contested .result) _ _
-    (sym (asked .blocked .ensures) ∙ found .before .before .before .before .before .if1 .taken)
-    (found .contested .ensures .1)
-    (new .before .before .lowest-object .ensures)
-    (new .before .how-many .ensures)
+    (put .before .before .put-groups .ensures) (put .put-groups2 .ensures) (a .tick) (found .waits-for .result .words) (found .waits-for .result .whom) _
+    (sym (asked .blocked .ensures) ∙ found .before .before .before .before .before .before .before .if1 .taken)
+    (found .waits-for .ensures .1 .0)
+    (found .waits-for .ensures .1 .1)
+    (new .before .wait-said .ensures)
 
 with-release-requires-2 : tie.Need-with-release-requires-2
 with-release-requires-2 c κs = releases-few (c .before)
@@ -93,7 +96,7 @@ no-admissions-requires c κs = search needs
 returns-2 : tie.Need-returns-2
 returns-2 c =
     let asked = c .before .before .before in
-    let put = asked .before .before .before .before .before in
+    let put = asked .before .before .before .before .before .before in
     let start = start-of asked in
     let a = start .args in
     rw (c .no-admissions .ensures, c .before .with-release2 .ensures)
@@ -110,11 +113,10 @@ released-spec =
     put-groups-requires
     put-groups-requires-2
     blocked-requires
-    contested-requires
-    lowest-object-requires
-    how-many-requires
+    waits-for-requires
+    wait-said-requires
     with-release-requires
-    mul-t38
+    mul-t37
     element-set-from-s
     scan-of-requires
     returns

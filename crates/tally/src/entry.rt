@@ -33,6 +33,7 @@ pub(crate) fn number_of(said: Said) -> u8
         Said::Wait {
             object: _,
             contested: _,
+            whom: _,
         } => 0,
         Said::No(number) => number,
     }
@@ -69,6 +70,7 @@ fn is_wait(said: Said) -> bool
         Said::Wait {
             object: _,
             contested: _,
+            whom: _,
         } => true,
         Said::No(_) => false,
     }

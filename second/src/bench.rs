@@ -151,7 +151,7 @@ impl Shares {
     fn of_log(log: &Path) -> io::Result<Shares> {
         let mut shares = Shares::default();
         let input = io::BufReader::new(File::open(log)?);
-        replay(input, &mut io::sink(), |_, reply| {
+        replay(input, &mut io::sink(), |_, _, reply| {
             shares.events += 1;
             if let Ok(outcome) = reply {
                 shares.accepted += 1;

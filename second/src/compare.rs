@@ -56,7 +56,7 @@ impl<W: Write> Comparison<'_, W> {
                 }
                 Ok(log) => {
                     let mut lines = Vec::new();
-                    replay(&log[..], &mut lines, |_, _| {})?;
+                    replay(&log[..], &mut lines, |_, _, _| {})?;
                     let what = first_difference(&lines, session.lines.as_bytes());
                     let what = format!("{}: not the lines written down\n{what}", session.name);
                     self.score.book(lines == session.lines.as_bytes(), &what)?;
@@ -77,13 +77,16 @@ impl<W: Write> Comparison<'_, W> {
         Ok(())
     }
 
-    /// Small logs: every m with every n, many tasks admitted at once, and every kind of damage.
+    /// Small logs: every m with every n, many tasks admitted at once, one admitted by a release
+    /// that clashes with it, and every kind of damage.
     fn small_logs(&mut self) -> io::Result<()> {
         for seed in 0..1024 {
             self.made(seed, "good", Size::of_seed(seed), Feeding::AtOnce)?;
         }
         for seed in (20_000..21_000).step_by(11) {
             self.made(seed, "flock", Size::of_seed(seed), Feeding::AtOnce)?;
+            let seed = seed + 20_000;
+            self.made(seed, "deferred", Size::of_seed(seed), Feeding::AtOnce)?;
         }
         for (kind, _) in DAMAGES {
             for seed in (10_000..).step_by(37).take(DAMAGED_SEEDS) {
@@ -144,8 +147,8 @@ impl<W: Write> Comparison<'_, W> {
         }
         let mut lines = Vec::new();
         let counts = &mut self.counts;
-        let bad = replay(log, &mut lines, |session, reply| {
-            counts.book_event(session, reply)
+        let bad = replay(log, &mut lines, |session, task, reply| {
+            counts.book_event(session, task, reply)
         })?;
         self.counts.book_end(bad);
         match said_by(self.program, &[], log, feeding, Stdio::inherit())? {

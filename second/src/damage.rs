@@ -4,7 +4,7 @@
 #![allow(clippy::ptr_arg)]
 
 use crate::log::{write_record, END, HEAD, SETUP, TASK};
-use crate::random::{busy_log, flock_log, full_log, good_log, Random, Size};
+use crate::random::{busy_log, deferred_log, flock_log, full_log, good_log, Random, Size};
 
 /// One kind of damage: it changes the bytes of a good log.
 type Damage = fn(&mut Random, &mut Vec<u8>);
@@ -36,8 +36,8 @@ pub const DAMAGES: [(&str, Damage); 23] = [
     ("twice", two_damages),              // any
 ];
 
-/// A log of a kind: `good`, `busy`, `full`, `flock`, or a kind of damage. Nothing for an unknown
-/// kind.
+/// A log of a kind: `good`, `busy`, `full`, `flock`, `deferred`, or a kind of damage. Nothing for
+/// an unknown kind.
 pub fn make(seed: u64, kind: &str, size: Size) -> Option<Vec<u8>> {
     let mut random = Random::new(seed);
     match kind {
@@ -45,6 +45,7 @@ pub fn make(seed: u64, kind: &str, size: Size) -> Option<Vec<u8>> {
         "busy" => return Some(busy_log(&mut random, size)),
         "full" => return Some(full_log(&mut random, size)),
         "flock" => return Some(flock_log(&mut random, size)),
+        "deferred" => return Some(deferred_log(&mut random, size)),
         _ => {}
     }
     let (_, damage) = DAMAGES.iter().find(|(name, _)| *name == kind)?;

@@ -3,9 +3,11 @@
 use std::io::{self, Write};
 
 use crate::both_numbers::BothNumbers;
+use crate::cases::InLogs;
 use crate::counts::{above, add, count, least, print_classes, Class, Counts, Never};
 use crate::lines::Reply;
-use crate::rules::{Answer, Refusal, Session, Setup};
+use crate::rules::{Answer, Outcome, Refusal, Session, Setup};
+use crate::task_named::TaskNamed;
 
 /// The numbers that the replay of a log can give. 28 is for writers with a buffer of one size.
 const REFUSALS: [u8; 19] = [
@@ -25,11 +27,10 @@ pub struct LogCounts {
     admissions: Counts<usize>,
     /// Admissions by clash count.
     clashes: Counts<u32>,
-    /// Both numbers of the admissions in the present log; of those in all logs before it; and
-    /// what came up there, once for each log.
-    in_log: BothNumbers,
-    in_admissions: BothNumbers,
-    in_logs: BothNumbers,
+    /// Both numbers of the admissions.
+    both_numbers: InLogs<BothNumbers>,
+    /// The tasks named by releases that wait.
+    tasks_named: InLogs<TaskNamed>,
     /// Events that admitted more than m tasks.
     above_m: u64,
     /// Accepted events after which some task waits for a processor only.
@@ -45,32 +46,39 @@ impl LogCounts {
         add(&mut self.tasks, setup.tasks.len());
     }
 
-    /// Books the reply to one event, with the session after it.
-    pub fn book_event(&mut self, session: &Session, reply: &Reply) {
+    /// Books the reply to one event of this task, with the session after it.
+    pub fn book_event(&mut self, session: &Session, task: u8, reply: &Reply) {
         self.events += 1;
         match reply {
             Err(refusal) => {
                 add(&mut self.refusals, refusal.number());
                 add(&mut self.answers, "no");
             }
-            Ok(outcome) => {
-                let word = match outcome.answer {
-                    Answer::Ok => "ok",
-                    Answer::Run => "run",
-                    Answer::Wait { .. } => "wait",
-                };
-                add(&mut self.answers, word);
-                add(&mut self.admissions, outcome.admitted.len());
-                for admission in &outcome.admitted {
-                    let (clashes, retries) = (admission.clashes, admission.retries);
-                    add(&mut self.clashes, clashes);
-                    self.in_log.book(clashes.into(), retries.into());
-                }
-                let most = usize::from(session.setup().processors);
-                self.above_m += u64::from(outcome.admitted.len() > most);
-                self.room_only += u64::from(session.waits_for_room_only());
-            }
+            Ok(outcome) => self.book_outcome(session, task, outcome),
         }
+    }
+
+    fn book_outcome(&mut self, session: &Session, task: u8, outcome: &Outcome) {
+        let word = match outcome.answer {
+            Answer::Ok => "ok",
+            Answer::Run => "run",
+            Answer::Wait { .. } => "wait",
+        };
+        add(&mut self.answers, word);
+        add(&mut self.admissions, outcome.admitted.len());
+        for admission in &outcome.admitted {
+            add(&mut self.clashes, admission.clashes);
+            self.both_numbers.book(&BothNumbers {
+                clashes: admission.clashes.into(),
+                retries: admission.retries.into(),
+            });
+        }
+        if let Some(named) = TaskNamed::of_wait(session, task, outcome) {
+            self.tasks_named.book(&named);
+        }
+        let most = usize::from(session.setup().processors);
+        self.above_m += u64::from(outcome.admitted.len() > most);
+        self.room_only += u64::from(session.waits_for_room_only());
     }
 
     /// Books the end of a log, and the refusal if it reads badly.
@@ -78,9 +86,8 @@ impl LogCounts {
         if let Some(refusal) = bad {
             add(&mut self.refusals, refusal.number());
         }
-        let in_log = std::mem::take(&mut self.in_log);
-        self.in_admissions.book_all(&in_log);
-        self.in_logs.book_once(&in_log);
+        self.both_numbers.book_end();
+        self.tasks_named.book_end();
     }
 
     /// What must have come up.
@@ -104,14 +111,15 @@ impl LogCounts {
             Class::new("logs for each m from 1 to 16", processors, 3),
             Class::new("logs for each n from 1 to 64", tasks, 3),
         ];
-        let both_numbers = [
-            self.in_admissions.must_come_up("admissions"),
-            self.in_logs.must_come_up("logs"),
+        let in_logs = [
+            self.both_numbers.must_come_up("admissions", "logs"),
+            self.tasks_named
+                .must_come_up("waits", "logs that have waits"),
         ];
         let replies = refusals.into_iter().chain(answers);
         replies
             .chain(others)
-            .chain(both_numbers.into_iter().flatten())
+            .chain(in_logs.into_iter().flatten())
             .collect()
     }
 
@@ -119,10 +127,11 @@ impl LogCounts {
     ///
     /// A waiting transaction clashed with an executing one when it was released, and is admitted
     /// only after that one's commit, which raises its clash count; so none is admitted with 0.
-    pub fn must_not_come_up(&self) -> [Never; 3] {
+    pub fn must_not_come_up(&self) -> [Never; 4] {
         [
             Never::new("admissions with 0 clashes", count(&self.clashes, 0)),
-            self.in_admissions.must_not_come_up("admissions"),
+            self.both_numbers.must_not_come_up("admissions"),
+            self.tasks_named.must_not_come_up("waits"),
             Never::new("more than m admitted", self.above_m),
         ]
     }

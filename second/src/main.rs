@@ -1,6 +1,7 @@
 //! An independent reading of document 01, its rules, its log and its replay lines, and of requests
-//! CR 1, the report, and CR 2, retries that never ran, in document 02; written from these documents
-//! alone, to be compared with other programs that follow them.
+//! CR 1, the report, CR 2, retries that never ran, and CR 3, whom a transaction waits for, in
+//! document 02; written from these documents alone, to be compared with other programs that follow
+//! them.
 //!
 //! Subcommands:
 //!
@@ -17,12 +18,13 @@
 //! To read it in order: `rules` (sessions and events), `log` (records), `lines` (the replay),
 //! `text`; `tally` (what an event books) and `report` (the sheet); then what both comparisons
 //! need: `random`, `damage` and `seasons` (logs to try), `other` (the other program), `counts`,
-//! `both_numbers`, `score` and `folder`; then the replay's: `vectors` (sessions written down),
-//! `log_counts`, `compare` and `bench`; then the report's: `sheet_vectors` (lists written down),
-//! `sheet_counts` and `sheets`.
+//! `cases`, `both_numbers`, `score` and `folder`; then the replay's: `vectors` (sessions written
+//! down), `task_named`, `log_counts`, `compare` and `bench`; then the report's: `sheet_vectors`
+//! (lists written down), `sheet_counts` and `sheets`.
 
 mod bench;
 mod both_numbers;
+mod cases;
 mod compare;
 mod counts;
 mod damage;
@@ -40,6 +42,7 @@ mod sheet_counts;
 mod sheet_vectors;
 mod sheets;
 mod tally;
+mod task_named;
 mod text;
 mod vectors;
 
@@ -119,7 +122,10 @@ second season SEED KIND FOLDER
 second sheets PROGRAM [ARGS...]";
     let mut errors = io::stderr();
     let _ = writeln!(errors, "{text}");
-    let _ = writeln!(errors, "KIND of a log: good busy full flock {damages}");
+    let _ = writeln!(
+        errors,
+        "KIND of a log: good busy full flock deferred {damages}"
+    );
     let _ = writeln!(errors, "KIND of a season: {good} {other_setups} {damages}");
     ExitCode::from(2)
 }
@@ -137,7 +143,7 @@ fn print(bytes: &[u8]) -> io::Result<ExitCode> {
 
 fn replay() -> io::Result<ExitCode> {
     let mut output = BufWriter::with_capacity(BUFFER, io::stdout().lock());
-    lines::replay(input(), &mut output, |_, _| {})?;
+    lines::replay(input(), &mut output, |_, _, _| {})?;
     output.flush()?;
     Ok(ExitCode::SUCCESS)
 }

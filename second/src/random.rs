@@ -3,6 +3,7 @@
 //! The generator keeps a session of its own, so that it can choose events that are accepted, and
 //! wrong ones only as often as it wants to.
 
+use std::cmp::Reverse;
 use std::collections::BTreeSet;
 
 use crate::log::{write_end, write_event, write_setup};
@@ -227,7 +228,14 @@ pub fn flock_log(random: &mut Random, size: Size) -> Vec<u8> {
     maker.end()
 }
 
-/// How the tasks of one log of a season behave.
+/// First a release that waits and admits one that clashes with it; see `Maker::add_deferred`. Then
+/// `size.events` more.
+pub fn deferred_log(random: &mut Random, size: Size) -> Vec<u8> {
+    let setup = season_setup(random, size.processors, size.tasks);
+    log_of_setup(random, &setup, size.events, Behaviour::Deferred)
+}
+
+/// How the tasks of one log of a given setup behave.
 #[derive(Clone, Copy)]
 pub enum Behaviour {
     /// In any way.
@@ -238,6 +246,8 @@ pub enum Behaviour {
     Long,
     /// First as in a flock log, with waits of any length, and then as in a long one.
     Flock,
+    /// First as in a deferred log, and then many wait.
+    Deferred,
 }
 
 /// A good log of a given setup.
@@ -249,14 +259,18 @@ pub fn log_of_setup(
 ) -> Vec<u8> {
     let style = match behaviour {
         Behaviour::Mixed => Style::mixed(random),
-        Behaviour::Contended => Style::contended(random),
+        Behaviour::Contended | Behaviour::Deferred => Style::contended(random),
         Behaviour::Long | Behaviour::Flock => Style::long(random),
     };
     let mut maker = Maker::new(random, style, setup.clone());
-    if let Behaviour::Flock = behaviour {
-        let apart = maker.random.pick(&[0, 1, 1000, 60_000_000]);
-        let commit = maker.random.between(64 * apart, u32::MAX);
-        maker.add_flock(apart, commit);
+    match behaviour {
+        Behaviour::Mixed | Behaviour::Contended | Behaviour::Long => {}
+        Behaviour::Flock => {
+            let apart = maker.random.pick(&[0, 1, 1000, 60_000_000]);
+            let commit = maker.random.between(64 * apart, u32::MAX);
+            maker.add_flock(apart, commit);
+        }
+        Behaviour::Deferred => maker.add_deferred(),
     }
     for _ in 0..events {
         maker.add_chosen_event();
@@ -294,15 +308,10 @@ pub fn log_of_waits(random: &mut Random, waits: &[u32]) -> Vec<u8> {
     };
     let style = Style::contended(random);
     let mut maker = Maker::new(random, style, setup);
-    let write = || {
-        let (reads, writes) = (BTreeSet::new(), BTreeSet::from([9]));
-        Action::Release(Transaction { reads, writes })
-    };
     let mut tick = 0;
     for (wait, second) in waits.iter().zip([1, 2].into_iter().cycle()) {
         for task in [0, second] {
-            maker.add(tick, task, Action::Arrive);
-            maker.add(tick, task, write());
+            maker.add_released(tick, task, &[], &[9]);
         }
         for task in [0, second] {
             maker.add(tick + wait, task, Action::Commit);
@@ -370,17 +379,71 @@ impl Maker<'_> {
 
     /// Task 0 writes every object, the others release so many ticks apart, and task 0 commits.
     fn add_flock(&mut self, apart: u32, commit: u32) {
+        let all: Vec<u8> = (0..=255).collect();
         for task in 0..self.session.setup().tasks.len() as u8 {
-            let (reads, writes) = match task {
-                0 => (BTreeSet::new(), (0..=255).collect()),
-                _ => (BTreeSet::from([task]), BTreeSet::new()),
-            };
-            let release = Action::Release(Transaction { reads, writes });
             let tick = apart * u32::from(task);
-            self.add(tick, task, Action::Arrive);
-            self.add(tick, task, release);
+            match task {
+                0 => self.add_released(tick, task, &[], &all),
+                _ => self.add_released(tick, task, &[task], &[]),
+            }
         }
         self.add(commit, 0, Action::Commit);
+    }
+
+    /// Some task executes, and the second in rank waits for it. Then others execute until no
+    /// processor is left, the highest ranked task arrives, and the first one commits: the second in
+    /// rank has no room, since the highest ranked one is plain. That one's release clashes with it
+    /// and with some of the others, and waits, so that its scan admits the second in rank.
+    ///
+    /// With fewer than m + 2 tasks the second in rank has room, and the commit admits it.
+    fn add_deferred(&mut self) {
+        let mut ranked = self.tasks_by_rank();
+        if ranked.len() < 3 {
+            return;
+        }
+        let mut rest = ranked.split_off(2);
+        let (highest, second) = (ranked[0], ranked[1]);
+        let first = rest.swap_remove(self.random.below(rest.len()));
+        self.add_released(0, first, &[], &[64]);
+        self.add_released(0, second, &[], &[64]);
+        let (mut reads, mut writes) = (vec![64], Vec::new());
+        let others = usize::from(self.session.setup().processors) - 1;
+        for _ in 0..others.min(rest.len()) {
+            let other = rest.swap_remove(self.random.below(rest.len()));
+            // The higher its number, the lower is its object.
+            let object = [63 - other];
+            match self.random.below(3) {
+                0 => self.add_released(1, other, &[], &object),
+                _ => self.add_released(1, other, &object, &[]),
+            }
+            match self.random.below(2) {
+                0 => reads.extend(object),
+                _ => writes.extend(object),
+            }
+        }
+        self.add(2, highest, Action::Arrive);
+        self.add(3, first, Action::Commit);
+        self.add_release(4, highest, &reads, &writes);
+    }
+
+    /// All tasks, the highest rank first.
+    fn tasks_by_rank(&self) -> Vec<u8> {
+        let tasks = &self.session.setup().tasks;
+        let mut ranked: Vec<u8> = (0..tasks.len() as u8).collect();
+        ranked.sort_by_key(|task| (Reverse(tasks[usize::from(*task)].priority), *task));
+        ranked
+    }
+
+    /// An arrival, and a release at the same tick.
+    fn add_released(&mut self, tick: u32, task: u8, reads: &[u8], writes: &[u8]) {
+        self.add(tick, task, Action::Arrive);
+        self.add_release(tick, task, reads, writes);
+    }
+
+    fn add_release(&mut self, tick: u32, task: u8, reads: &[u8], writes: &[u8]) {
+        let reads = reads.iter().copied().collect();
+        let writes = writes.iter().copied().collect();
+        self.add(tick, task, Action::Release(Transaction { reads, writes }));
     }
 
     fn add(&mut self, tick: u32, task: u8, action: Action) {

@@ -1,7 +1,7 @@
 //! The rules of one session: tasks, transactions, events, refusals and the scan.
 //!
-//! Every name here is a word of document 01 or of request CR 2 in document 02, and every step
-//! follows one of their sentences.
+//! Every name here is a word of document 01 or of requests CR 2 and CR 3 in document 02, and every
+//! step follows one of their sentences.
 
 use std::cmp::Reverse;
 use std::collections::{BTreeMap, BTreeSet};
@@ -143,10 +143,14 @@ pub enum Answer {
     Ok,
     /// The released transaction executes at once.
     Run,
-    /// The released transaction waits: the lowest contested object, and how many are contested.
+    /// The released transaction waits: the clash answer.
     Wait {
+        /// The lowest contested object.
         lowest: u8,
+        /// How many objects are contested.
         count: usize,
+        /// The highest ranked executing task that it clashes with, before the scan.
+        highest: u8,
     },
 }
 
@@ -274,6 +278,18 @@ impl Session {
         self.jobs[task].releases >= self.setup.tasks[task].transactions
     }
 
+    /// The waiting tasks, the highest rank first, each with its transaction.
+    pub fn waiting(&self) -> impl Iterator<Item = (u8, &Transaction)> {
+        let waiting = self.waiting.iter();
+        waiting.map(|waiting| (waiting.rank.task, &waiting.transaction))
+    }
+
+    /// The executing tasks, the lowest number first, each with its transaction.
+    pub fn executing(&self) -> impl Iterator<Item = (u8, &Transaction)> {
+        let executing = self.executing.iter();
+        executing.map(|(task, transaction)| (*task, transaction))
+    }
+
     /// Whether some task waits for a processor only: it clashes with no executing transaction.
     pub fn waits_for_room_only(&self) -> bool {
         self.waiting
@@ -345,18 +361,13 @@ impl Session {
     fn release(&mut self, task: u8, transaction: Transaction) -> Outcome {
         self.plain.remove(&self.rank(task));
         self.jobs[usize::from(task)].releases += 1;
-        let contested = self.contested(&transaction);
-        match contested.first() {
+        match self.clash_answer(&transaction) {
             None => {
                 self.executing.insert(task, transaction);
                 Outcome::without_scan(Answer::Run)
             }
-            Some(&lowest) => {
+            Some(answer) => {
                 self.wait(task, transaction);
-                let answer = Answer::Wait {
-                    lowest,
-                    count: contested.len(),
-                };
                 Outcome {
                     answer,
                     admitted: self.scan(),
@@ -450,6 +461,26 @@ impl Session {
         self.executing
             .values()
             .any(|executing| transaction.clashes_with(executing))
+    }
+
+    /// The answer to a release that waits; nothing if the released transaction clashes with no
+    /// executing one.
+    fn clash_answer(&self, transaction: &Transaction) -> Option<Answer> {
+        let contested = self.contested(transaction);
+        Some(Answer::Wait {
+            lowest: *contested.first()?,
+            count: contested.len(),
+            highest: self.highest_clashing(transaction)?,
+        })
+    }
+
+    /// The highest ranked of the executing tasks that a transaction clashes with.
+    fn highest_clashing(&self, transaction: &Transaction) -> Option<u8> {
+        let clashing = self
+            .executing()
+            .filter(|(_, other)| transaction.clashes_with(other));
+        let highest = clashing.map(|(task, _)| self.rank(task)).min()?;
+        Some(highest.task)
     }
 
     /// The objects on which a transaction clashes with at least one executing transaction.

@@ -5,6 +5,7 @@ use std::ffi::OsString;
 use std::io::{self, Write};
 
 use crate::both_numbers::BothNumbers;
+use crate::cases::CaseCounts;
 use crate::counts::{add, add_all, count, least, print_classes, Class, Counts, Never};
 use crate::report::{Onlooker, Report, Trouble};
 use crate::rules::{Action, Event, Refusal, Setup};
@@ -67,9 +68,9 @@ pub struct SheetCounts {
     on_sheets: Counts<&'static str>,
     /// In lists that have a sheet, both numbers of the waits booked; of the rows; and what came up
     /// in the rows, once for each sheet.
-    in_waits: BothNumbers,
-    in_rows: BothNumbers,
-    in_sheets: BothNumbers,
+    in_waits: CaseCounts<BothNumbers>,
+    in_rows: CaseCounts<BothNumbers>,
+    in_sheets: CaseCounts<BothNumbers>,
     /// Lists that have a sheet, by m and by n.
     processors: Counts<usize>,
     tasks: Counts<usize>,
@@ -83,7 +84,7 @@ struct ListCounts {
     refused: Counts<u8>,
     came_up: Counts<&'static str>,
     /// Both numbers of the waits booked.
-    in_waits: BothNumbers,
+    in_waits: CaseCounts<BothNumbers>,
     processors: usize,
     /// Whether an event was left out.
     left_out: bool,
@@ -134,9 +135,12 @@ impl SheetCounts {
 
     /// Books both numbers of each row of a sheet.
     fn book_rows(&mut self, tally: &Tally) {
-        let mut in_sheet = BothNumbers::default();
+        let mut in_sheet = CaseCounts::default();
         for figures in tally.tasks() {
-            in_sheet.book(figures.clashes, figures.retries);
+            in_sheet.book(&BothNumbers {
+                clashes: figures.clashes,
+                retries: figures.retries,
+            });
         }
         self.in_rows.book_all(&in_sheet);
         self.in_sheets.book_once(&in_sheet);
@@ -294,7 +298,10 @@ impl ListCounts {
         if wait.clashes > 1 {
             self.add("waits with several clashes");
         }
-        self.in_waits.book(wait.clashes, wait.retries);
+        self.in_waits.book(&BothNumbers {
+            clashes: wait.clashes,
+            retries: wait.retries,
+        });
         if self.opened_by_left_out.remove(&wait.task) {
             self.add("waits booked that an event left out had opened");
         }

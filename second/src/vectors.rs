@@ -1,7 +1,8 @@
 //! Sessions with the lines they must give, and texts that must be refused.
 //!
 //! A sum in a comment is the one that decides on a retry, just before a commit: executing tasks +
-//! plain tasks + waiting tasks ranked above.
+//! plain tasks + waiting tasks ranked above. The third number of a wait is a task: of those that
+//! execute at the release and clash with it, the one that ranks highest.
 
 /// A session in readable text, and its lines.
 pub struct Written {
@@ -10,7 +11,7 @@ pub struct Written {
     pub lines: &'static str,
 }
 
-pub const SESSIONS: [Written; 6] = [
+pub const SESSIONS: [Written; 7] = [
     Written {
         name: "the session of 01",
         text: WHOLE_TEXT,
@@ -41,9 +42,15 @@ pub const SESSIONS: [Written; 6] = [
         text: WAITING_ABOVE_TEXT,
         lines: WAITING_ABOVE_LINES,
     },
+    Written {
+        name: "the one waited for, of five executing ones that clash",
+        text: WAITED_FOR_TEXT,
+        lines: WAITED_FOR_LINES,
+    },
 ];
 
 /// "A whole session" of document 01. At tick 5 task 2 runs although it clashes with waiting task 1.
+/// At 3 task 0 alone executes, so that task 1 waits for it.
 ///
 /// Both commits that task 1 waits for clash with it, and neither is a retry, since m is 2: at 6
 /// tasks 0 and 2 execute, 2 + 0 + 0; at 7 task 2 executes and task 0 is plain, 1 + 1 + 0.
@@ -74,7 +81,7 @@ setup 2 3
 0 arrive 0 ok
 1 release 0 run
 2 arrive 1 ok
-3 release 1 wait 4 1
+3 release 1 wait 4 1 0
 4 arrive 2 ok
 5 release 2 run
 6 commit 0 ok
@@ -92,6 +99,8 @@ end 12 2
 /// "Easy to get wrong", the first case: when task 0 commits, task 1 has no room, since task 3 is
 /// plain above it. The scan after task 3's deferred release admits it. The commit is no retry:
 /// tasks 0 and 2 execute and task 3 is plain, 2 + 1 + 0, and m is 2.
+///
+/// At 3 task 0 alone executes, at 8 task 2 alone.
 pub const DEFERRED_TEXT: &str = "\
 setup 2
 task 10 100 1
@@ -115,18 +124,19 @@ setup 2 4
 0 arrive 0 ok
 1 release 0 run
 2 arrive 1 ok
-3 release 1 wait 1 1
+3 release 1 wait 1 1 0
 4 arrive 2 ok
 5 release 2 run
 6 arrive 3 ok
 7 commit 0 ok
-8 release 3 wait 2 1
+8 release 3 wait 2 1 2
 8 admit 1 1 0
 end 9 0
 ";
 
 /// "Easy to get wrong", the third case: the two waiting tasks clash with each other, so that the
-/// commit of task 0 admits only the higher one, although both have room.
+/// commit of task 0 admits only the higher one, although both have room. At 2 and at 3 task 0 alone
+/// executes.
 ///
 /// m is 3, and every clash is a retry. At 4 task 0 executes: 1 + 0 + 0 for task 1, and for task 2,
 /// with task 1 above it, 1 + 0 + 1. At 5 task 1 executes and task 0 is plain: 1 + 1 + 0 for task 2.
@@ -152,8 +162,8 @@ setup 3 3
 0 arrive 1 ok
 0 arrive 2 ok
 1 release 0 run
-2 release 2 wait 9 2
-3 release 1 wait 200 1
+2 release 2 wait 9 2 0
+3 release 1 wait 200 1 0
 4 commit 0 ok
 4 admit 1 1 1
 5 commit 1 ok
@@ -197,8 +207,9 @@ setup 4 4
 end 9 1
 ";
 
-/// Task 1 ranks highest and waits for task 0 and for task 2; m is 3. At 6 these two execute:
-/// 2 + 0 + 0, a retry. At 8 task 2 executes and tasks 0 and 3 are plain: 1 + 2 + 0, no retry.
+/// Task 1 ranks highest and waits for task 0 and for task 2, which ranks above task 0; m is 3. At 6
+/// these two execute: 2 + 0 + 0, a retry. At 8 task 2 executes and tasks 0 and 3 are plain:
+/// 1 + 2 + 0, no retry.
 ///
 /// With only the plain tasks that rank above it, of which there are none, 8 would be a retry too;
 /// and so it would with task 2 gone already: 0 + 2 + 0.
@@ -228,7 +239,7 @@ setup 3 4
 2 arrive 2 ok
 3 release 2 run
 4 arrive 1 ok
-5 release 1 wait 1 2
+5 release 1 wait 1 2 2
 6 commit 0 ok
 7 arrive 3 ok
 8 commit 2 ok
@@ -238,9 +249,10 @@ end 10 0
 ";
 
 /// Of the waiting tasks 2 ranks highest, then 1, then 3, which has 1's priority and a higher
-/// number; m is 4. At 10 tasks 0 and 4 execute. The commit of 0 does not clash with task 2. It
-/// clashes with task 1, which has task 2 above it: 2 + 0 + 1, a retry. It clashes with task 3,
-/// which has 2 and 1 above it: 2 + 0 + 2, no retry. Task 1 is admitted; 2 clashes with 4, 3 with 1.
+/// number; m is 4. From 3 to 10 tasks 0 and 4 execute; the releases of 3 and 1 clash with 0 alone,
+/// that of 2 with 4 alone. The commit of 0 at 10 does not clash with task 2. It clashes with task
+/// 1, which has task 2 above it: 2 + 0 + 1, a retry. It clashes with task 3, which has 2 and 1
+/// above it: 2 + 0 + 2, no retry. Task 1 is admitted; 2 clashes with 4, 3 with 1.
 ///
 /// At 11 tasks 4 and 1 execute and task 0 is plain; the commit of 4 clashes with task 2 alone:
 /// 2 + 1 + 0, a retry. At 13 tasks 1 and 2 execute and task 4 is plain; the commit of 1 clashes
@@ -283,11 +295,11 @@ setup 4 5
 2 arrive 4 ok
 3 release 4 run
 4 arrive 3 ok
-5 release 3 wait 1 2
+5 release 3 wait 1 2 0
 6 arrive 1 ok
-7 release 1 wait 1 1
+7 release 1 wait 1 1 0
 8 arrive 2 ok
-9 release 2 wait 2 1
+9 release 2 wait 2 1 4
 10 commit 0 ok
 10 admit 1 1 1
 11 commit 4 ok
@@ -298,6 +310,95 @@ setup 4 5
 14 commit 3 ok
 15 commit 2 ok
 end 16 0
+";
+
+/// At 19 task 6 releases; m is 7. Tasks 0 to 5 execute, so that it has room, 6 + 0, and tasks 7 and
+/// 8 wait. With what task 6 reads, 10 20 28 90, and writes, 25 200, their transactions clash thus:
+///
+/// | task | state     | priority | reads | writes | clash |
+/// |------|-----------|----------|-------|--------|-------|
+/// | 0    | executing | 20       | 25    |        | on 25 |
+/// | 1    | executing | 70       | 10    |        | none: both only read 10 |
+/// | 2    | executing | 30       |       | 20     | on 20 |
+/// | 3    | executing | 40       |       | 28     | on 28 |
+/// | 4    | executing | 10       | 25    |        | on 25 |
+/// | 5    | executing | 40       |       | 200    | on 200 |
+/// | 7    | waiting   | 90       |       | 28     | on 28, but it does not execute |
+/// | 8    | waiting   | 60       |       | 90     | on 90, but it does not execute |
+///
+/// Contested are 20, 25, 28 and 200, so that the lowest is 20 and they are 4. Of the executing ones
+/// that clash, 0, 2, 3, 4 and 5, the highest priority is 40, which 3 and 5 have, and 3 is the lower
+/// number: task 6 waits for 3.
+///
+/// Another reading gives another number: the first in number 0; the highest ranked executing one,
+/// or the highest ranked that shares an object, 1; the one with the lowest contested object 2; the
+/// lowest ranked 4; of equal priorities the higher number, or the last in number, 5; the task
+/// itself 6; the highest ranked one that clashes, if it waits too, 7; and after the scan, which
+/// admits 8, the highest ranked executing one that clashes is 8.
+///
+/// Before that, 8 waits for 1, which writes 90 at first, and 7 waits for 3. Just before the commit
+/// of 1 at 17 tasks 0 to 5 execute, 6 is plain and 7 waits above 8: 6 + 1 + 1, a clash of 8 and no
+/// retry. Then 8 clashes with no executing one, but has no room: 0, 2, 3, 4 and 5 execute, and 1
+/// and 6 are plain above it, 5 + 2. At 18 task 1 has room, 5 + 1, and runs. The scan at 19 looks at
+/// 7, which clashes with 3, at 6, and at 8, which now has room: 6 + 0.
+const WAITED_FOR_TEXT: &str = "\
+setup 7
+task 20 100 1
+task 70 100 2
+task 30 100 1
+task 40 100 1
+task 10 100 1
+task 40 100 1
+task 80 100 1
+task 90 100 1
+task 60 100 1
+0 arrive 4
+1 release 4 reads 25 writes
+2 arrive 5
+3 release 5 reads writes 200
+4 arrive 0
+5 release 0 reads 25 writes
+6 arrive 3
+7 release 3 reads writes 28
+8 arrive 2
+9 release 2 reads writes 20
+10 arrive 1
+11 release 1 reads writes 90
+12 arrive 8
+13 release 8 reads writes 90
+14 arrive 7
+15 release 7 reads writes 28
+16 arrive 6
+17 commit 1
+18 release 1 reads 10 writes
+19 release 6 reads 10 20 28 90 writes 25 200
+end
+";
+
+const WAITED_FOR_LINES: &str = "\
+setup 7 9
+0 arrive 4 ok
+1 release 4 run
+2 arrive 5 ok
+3 release 5 run
+4 arrive 0 ok
+5 release 0 run
+6 arrive 3 ok
+7 release 3 run
+8 arrive 2 ok
+9 release 2 run
+10 arrive 1 ok
+11 release 1 run
+12 arrive 8 ok
+13 release 8 wait 90 1 1
+14 arrive 7 ok
+15 release 7 wait 28 1 3
+16 arrive 6 ok
+17 commit 1 ok
+18 release 1 run
+19 release 6 wait 20 4 3
+19 admit 8 1 0
+end 20 0
 ";
 
 /// Texts that have no log, with the line in which that shows.

@@ -15,13 +15,13 @@ use Rattle.rules.specs.declared.Said.{Said}
 use Rattle.rules.specs.declared.Admission.{Admission}
 use Rattle.rules.specs.declared.Admissions.{Admissions}
 use Rattle.rules.specs.declared.Answer.{Answer}
-use Rattle.rules.specs.Answers.{number}
+use Rattle.rules.specs.Answers.{isWait, number}
 use Rattle.rules.specs.Ranking.{byPriority}
 use Rattle.rules.specs.Tasks.{noTerms, noTask}
 use Rattle.rules.specs.Setup.{setupNumber, sameSetup, fresh, noSession}
 use Rattle.rules.specs.Scan.{noAdmission}
 use Rattle.rules.specs.Events.{step}
-use Rattle.rules.specs.History.{isRelease, isCommit, isWait}
+use Rattle.rules.specs.History.{isRelease, isCommit}
 use Rattle.report.specs.declared.Figures.{Figures}
 use Rattle.report.specs.declared.Tally.{Tally}
 use Rattle.report.specs.declared.OpenSession.{OpenSession}

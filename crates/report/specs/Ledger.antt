@@ -10,7 +10,8 @@ use Rattle.objects.specs.Below.{one, all}
 use Rattle.rules.specs.declared.Setup.{Setup}
 use Rattle.rules.specs.Ranking.{byPriority}
 use Rattle.rules.specs.Setup.{sameSetup, fresh}
-use Rattle.rules.specs.History.{Call, accepted, isCommit, isWait, releases, began, lasted, waitLength, passed, retried}
+use Rattle.rules.specs.Answers.{isWait}
+use Rattle.rules.specs.History.{Call, accepted, isCommit, releases, began, lasted, waitLength, passed, retried}
 use Rattle.report.specs.declared.Figures.{Figures}
 use Rattle.report.specs.Items.{Item, commit, wait, within}
 

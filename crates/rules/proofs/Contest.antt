@@ -1,7 +1,7 @@
 -- What is decided of a transaction against those that execute is what is said plainly: a yes of `any` has a task that gives it, and the other way round. The task that a
 -- wait names is the foremost of those that clash, and with a strict ranking there is one foremost.
 use Prim.Native.Nat.{ℕ, _≤_, _<_}
-use mathlib.Core.Path.{_≡_, refl, sym, ap, _∙_}
+use mathlib.Core.Path.{_≡_, refl, sym}
 use mathlib.Core.Logic.{_≢_, ⊎-elim}
 use mathlib.Core.Bool.{Bool, true, false, _&&_, false≢true}
 use native.Mathlib.Nat.{le-antisymm}
@@ -10,16 +10,14 @@ use Rattle.objects.specs.Objects.{Sets, clash, clashOn, Clash}
 use Rattle.objects.proofs.Laws.Below.{below-or-from, any-witness, any-at, and-left, and-right, and-both}
 use Rattle.objects.proofs.Laws.Clash.{clash-plain, clash-on-plain}
 use Rattle.rules.specs.declared.Said.{Said}
-use Rattle.rules.specs.declared.Said.the-variants.{Ok, Run, Wait, No}
+use Rattle.rules.specs.declared.Said.the-variants.{Ok, Run}
 use Rattle.rules.specs.declared.Answer.{Answer}
-use Rattle.rules.specs.Answers.{whom}
-use Rattle.rules.specs.Ranking.{foremost}
+use Rattle.rules.specs.Answers.{isWait}
 use Rattle.rules.specs.Tasks.{taskAt, executing, setsAt, setsOf}
 use Rattle.rules.specs.Room.{rankAt}
 use Rattle.rules.specs.Contest.{clashing, blocked, contestedOn, highestClashing, Blocked, BlockedPlain, ContestedPlain, HighestClashing, HighestPlain}
 use Rattle.rules.specs.Events.{releaseNumber, refused, waitSaid}
-use Rattle.rules.specs.Reachable.{WaitNames}
-use Rattle.rules.specs.History.{isWait}
+use Rattle.rules.specs.Reachable.{WaitSays, OthersSay, AnswerSays}
 use Rattle.rules.proofs.Laws.Foremost.{foremost-found, foremost-first}
 use Rattle.rules.proofs.Laws.Steps.{arrive-cases, release-cases, commit-cases, finish-cases, step-cases}
 
@@ -56,17 +54,17 @@ unfolding highestClashing
 highest-plain rank strict s x small = (found, only)
   where
     h : ℕ
-    h = foremost (s .n) (clashing s x) (rankAt rank s)
+    h = highestClashing rank s x
 
     clashes-at : (j : ℕ) → executing s j ≡ true → Clash x (setsAt s j) → clashing s x j ≡ true
     clashes-at j e c = and-both (executing s j) (clash x (setsAt s j)) e (clash-plain x (setsAt s j) .1 c)
 
     first : (j : ℕ) → j < s .n → executing s j ≡ true → Clash x (setsAt s j) → (h ≢ 64) × (rankAt rank s h ≤ rankAt rank s j)
-    first j l e c = foremost-first (s .n) (clashing s x) (rankAt rank s) small j l (clashes-at j e c)
+    first j l e c = foremost-first (s .n) _ _ small j l (clashes-at j e c)
 
     is : h ≢ 64 → HighestClashing rank s x h
     is d =
-        let w = foremost-found (s .n) (clashing s x) (rankAt rank s) d in
+        let w = foremost-found (s .n) _ _ d in
         let yes = clash x (setsAt s h) in
         record {
           below = w .0;
@@ -86,27 +84,35 @@ highest-plain rank strict s x small = (found, only)
         let same = ⊎-elim (λ l. absurd (not-above l)) (λ l. le-antisymm l (f .1)) (below-or-from (rankAt rank s h) (rankAt rank s i)) in
         strict (taskAt s i) (taskAt s h) i h (omega (arith, g .below, small)) (omega (arith, m .below, small)) same
 
--- an answer that is no wait names nobody
-pub wait-names : WaitNames
-wait-names rank strict s e small =
-    step-cases rank s e Named
-    (λ kind. arrive-cases Named s refuses (e .tick) (e .task) (λ z b k i p. other Ok refl b k i p))
-    (λ kind. release-cases Named s refuses (e .tick) (e .task) rank (e .reads) (e .writes) waits (λ z free b k i p. other Run refl b k i p))
-    (λ kind. commit-cases Named s refuses (e .tick) (e .task) rank (λ z b k i p. other Ok refl b k i p))
-    (λ kind. finish-cases Named s refuses (e .tick) (e .task) rank (λ z b k i p. other Ok refl b k i p))
+-- only a release that is accepted and blocked is answered with a wait
+pub answer-says : AnswerSays
+answer-says rank strict s e small =
+    step-cases rank s e Says
+    (λ kind. arrive-cases Says s refuses (e .tick) (e .task) (λ z. says-ok))
+    (λ kind. release-cases Says s refuses (e .tick) (e .task) rank (e .reads) (e .writes) waits (λ z free. says-run))
+    (λ kind. commit-cases Says s refuses (e .tick) (e .task) rank (λ z. says-ok))
+    (λ kind. finish-cases Says s refuses (e .tick) (e .task) rank (λ z. says-ok))
   where
     x : Sets
     x = setsOf (e .reads) (e .writes)
 
-    Named : Answer → Type 0
-    Named a = (b k i : ℕ) → a .said ≡ Wait b k i → HighestClashing rank s x i
+    SaysOf : Said → Type 0
+    SaysOf said = (isWait said ≡ true → WaitSays rank s x said) × (isWait said ≡ false → OthersSay said)
 
-    other : (said : Said) → isWait said ≡ false → (b k i : ℕ) → said ≡ Wait b k i → HighestClashing rank s x i
-    other said q b k i p = absurd (false≢true (sym q ∙ ap isWait p))
+    Says : Answer → Type 0
+    Says a = SaysOf (a .said)
 
-    refuses : (k : ℕ) → k ≢ 0 → Named (refused s k)
-    refuses k d b c i p = other (No k) refl b c i p
+    says-ok : SaysOf Ok
+    says-ok = (λ p. absurd (false≢true p), λ p. (refl, refl, refl))
 
-    waits : releaseNumber rank s (e .tick) (e .task) ≡ 0 → blocked s x ≡ true
-        → (b k i : ℕ) → waitSaid rank s x ≡ Wait b k i → HighestClashing rank s x i
-    waits z clashes b k i p = rw (ap whom p) at (highest-plain rank strict s x small .0 (blocked-plain s x .0 clashes))
+    says-run : SaysOf Run
+    says-run = (λ p. absurd (false≢true p), λ p. (refl, refl, refl))
+
+    refuses : (k : ℕ) → k ≢ 0 → Says (refused s k)
+    refuses k d = (λ p. absurd (false≢true p), λ p. (refl, refl, refl))
+
+    waits : releaseNumber rank s (e .tick) (e .task) ≡ 0 → blocked s x ≡ true → SaysOf (waitSaid rank s x)
+    waits z clashes = (
+      λ p. (refl, refl, highest-plain rank strict s x small .0 (blocked-plain s x .0 clashes)),
+      λ p. absurd (false≢true (sym p)),
+    )

@@ -20,13 +20,13 @@ use Rattle.rules.specs.declared.Kind.{Kind}
 use Rattle.rules.specs.declared.Kind.the-variants.{Arrive, Release, Commit, Finish}
 use Rattle.rules.specs.declared.Event.{Event}
 use Rattle.rules.specs.declared.Answer.{Answer}
-use Rattle.rules.specs.Answers.{number}
+use Rattle.rules.specs.Answers.{isWait, number}
 use Rattle.rules.specs.Ranking.{Ranking, Strict, Stays}
 use Rattle.rules.specs.Tasks.{isWaiting, isExecuting, taskAt, stateAt}
 use Rattle.rules.specs.Room.{ran}
 use Rattle.rules.specs.Events.{refused, step}
 use Rattle.rules.specs.Reachable.{Sound}
-use Rattle.rules.specs.History.{Call, heard, tasksOf, names, accepted, by, arrives, commits, deferred, admits, isArrive, isCommit, isRelease, isWait, Stage, waits, executes, stageAfter, stage, isWaits, inWait, transaction, released, began, lasted, waitLength, during, passes, passed, lastArrival, retried}
+use Rattle.rules.specs.History.{Call, heard, tasksOf, names, accepted, by, arrives, commits, deferred, admits, isArrive, isCommit, isRelease, Stage, waits, executes, stageAfter, stage, isWaits, inWait, transaction, released, began, lasted, waitLength, during, passes, passed, lastArrival, retried}
 use Rattle.rules.specs.Demand3.{Start, Run, begun, called, stageOf}
 use Rattle.rules.proofs.Laws.Alike.{at-or-other}
 use Rattle.rules.proofs.Laws.Listed.{Settled, Each}

@@ -14,10 +14,9 @@ use Rattle.rules.specs.declared.Kind.{Kind}
 use Rattle.rules.specs.declared.Kind.the-variants.{Arrive, Release, Commit, Finish}
 use Rattle.rules.specs.declared.Event.{Event}
 use Rattle.rules.specs.declared.Said.{Said}
-use Rattle.rules.specs.declared.Said.the-variants.{Ok, Run, Wait, No}
 use Rattle.rules.specs.declared.Admission.{Admission}
 use Rattle.rules.specs.declared.Answer.{Answer}
-use Rattle.rules.specs.Answers.{number}
+use Rattle.rules.specs.Answers.{isWait, number}
 use Rattle.rules.specs.Ranking.{Ranking}
 use Rattle.rules.specs.Tasks.{taskAt, setsOf}
 use Rattle.rules.specs.Lines.{admissions}
@@ -75,12 +74,6 @@ isFinish Arrive = false
 isFinish Release = false
 isFinish Commit = false
 isFinish Finish = true
-
-abbrev pub isWait : Said → Bool
-isWait Ok = false
-isWait Run = false
-isWait (Wait b k j) = true
-isWait (No k) = false
 
 -- the call is an accepted event of task i, and of this kind
 abbrev pub by : Call → ℕ → Bool

@@ -5,19 +5,18 @@ use mathlib.Core.Logic.{_⊎_, _≢_}
 use mathlib.Core.Bool.{true, false}
 use lib.ListN.{length, getD}
 use Rattle.objects.specs.Below.{count}
-use Rattle.objects.specs.Objects.{clash}
+use Rattle.objects.specs.Objects.{Sets, clash}
 use Rattle.rules.specs.declared.Setup.{Setup}
 use Rattle.rules.specs.declared.Arrival.the-variants.{At}
-use Rattle.rules.specs.declared.Task.{Task}
 use Rattle.rules.specs.declared.Session.{Session}
 use Rattle.rules.specs.declared.Event.{Event}
-use Rattle.rules.specs.declared.Said.the-variants.{Wait}
-use Rattle.rules.specs.Answers.{number}
+use Rattle.rules.specs.declared.Said.{Said}
+use Rattle.rules.specs.Answers.{isWait, number, object, contested, whom}
 use Rattle.rules.specs.Ranking.{Ranking, Strict, Stays}
 use Rattle.rules.specs.Tasks.{isAbsent, waitOf, taskAt, stateAt, waiting, executing, setsAt, setsOf, noTask}
 use Rattle.rules.specs.Setup.{setupNumber, fresh, termsNumber}
 use Rattle.rules.specs.Room.{room}
-use Rattle.rules.specs.Contest.{blocked, HighestClashing}
+use Rattle.rules.specs.Contest.{blocked, lowestContested, contestedCount, HighestClashing}
 use Rattle.rules.specs.Events.{step}
 
 -- ---- the record
@@ -74,9 +73,17 @@ AcceptedOne =
 abbrev pub AdmittedFew : Type 0
 AdmittedFew = (rank : Ranking) (s : Session) (e : Event) → step rank s e .admitted .count ≤ s .m
 
--- Request 3: 'The clash answer shall also name the highest ranked executing task it clashes with', of any session of no more than 64 tasks: the task that an answer names
--- is the one that is said plainly.
-abbrev pub WaitNames : Type 0
-WaitNames =
-    (rank : Ranking) → Strict rank → (s : Session) (e : Event) → s .n ≤ 64 → (b k i : ℕ) → step rank s e .said ≡ Wait b k i
-    → HighestClashing rank s (setsOf (e .reads) (e .writes)) i
+-- What an answer says, by the definitions of Answers, of any session of no more than 64 tasks: 'the lowest contested object number, and how many objects are contested', and
+-- since request 3 'the highest ranked executing task it clashes with', said plainly. 'In every answer but that of a release that waits, the contested object, the
+-- contested count and any task named with them are 0.'
+abbrev pub WaitSays : Ranking → Session → Sets → Said → Type 0
+WaitSays rank s x said = (object said ≡ lowestContested s x) × (contested said ≡ contestedCount s x) × HighestClashing rank s x (whom said)
+
+abbrev pub OthersSay : Said → Type 0
+OthersSay said = (object said ≡ 0) × (contested said ≡ 0) × (whom said ≡ 0)
+
+abbrev pub AnswerSays : Type 0
+AnswerSays =
+    (rank : Ranking) → Strict rank → (s : Session) (e : Event) → s .n ≤ 64
+    → (isWait (step rank s e .said) ≡ true → WaitSays rank s (setsOf (e .reads) (e .writes)) (step rank s e .said))
+    × (isWait (step rank s e .said) ≡ false → OthersSay (step rank s e .said))

@@ -2,8 +2,8 @@
 ghost use mathlib.Core.Path.{_≡_};
 ghost use mathlib.Core.Bool.{true};
 ghost use Prim.Native.Nat.{_<_, _-_, _^_};
-ghost use Rattle.rules.specs.Answers.{number};
-ghost use Rattle.rules.specs.History.{isCommit, isRelease, isWait};
+ghost use Rattle.rules.specs.Answers.{isWait, number};
+ghost use Rattle.rules.specs.History.{isCommit, isRelease};
 ghost use Rattle.report.specs.Items.{entered, enterable, waitsIn, written};
 ghost use Rattle.report.specs.Booking.{ticksOf, waitItems, commitItems, waitedAfter};
 ghost use Rattle.tally.specs.Parts.{Inside};

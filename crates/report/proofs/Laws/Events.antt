@@ -20,14 +20,14 @@ use Rattle.rules.specs.declared.Event.{Event}
 use Rattle.rules.specs.declared.Said.{Said}
 use Rattle.rules.specs.declared.Admission.{Admission}
 use Rattle.rules.specs.declared.Answer.{Answer}
-use Rattle.rules.specs.Answers.{number}
+use Rattle.rules.specs.Answers.{isWait, number}
 use Rattle.rules.specs.Ranking.{Ranking, byPriority, Strict, Stays}
 use Rattle.rules.specs.Tasks.{isWaiting, taskAt, stateAt}
 use Rattle.rules.specs.Setup.{fresh}
 use Rattle.rules.specs.Room.{ran}
 use Rattle.rules.specs.Events.{raisedState, raisedTask, step}
 use Rattle.rules.specs.Scan.{noAdmission, admission, Scanned}
-use Rattle.rules.specs.History.{Call, heard, tasksOf, isCommit, isRelease, isWait, began, lasted, waitLength}
+use Rattle.rules.specs.History.{Call, heard, tasksOf, isCommit, isRelease, began, lasted, waitLength}
 use Rattle.rules.specs.Demand3.{Start, Run, called, AdmissionsCount, Told}
 use Rattle.rules.proofs.Ranking.{priority-strict}
 use Rattle.rules.proofs.Laws.Alike.{at-or-other}

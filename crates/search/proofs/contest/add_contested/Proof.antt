@@ -14,10 +14,9 @@ use lib.Seq.{getD-set-other}
 use borrow.Author.Needs.{needs}
 use borrow.Author.Tests.{eq-eqb, ne-eqb}
 use Rattle.objects.specs.Below.{any}
-use Rattle.objects.specs.Objects.{clash}
 use Rattle.objects.proofs.Laws.Below.{any-empty, any-more}
 use Rattle.objects.proofs.Laws.Clash.{group-contested-word}
-use Rattle.search.specs.Rows.{setsIn, groupIn, wordIn}
+use Rattle.search.specs.Rows.{groupIn, wordIn}
 use Rattle.search.proofs.Laws.Loops.{filled-more, groupClash, clash-in}
 use Rattle.search.proofs.contest.add_contested.Statement.{statement}
 use Rattle.search.proofs.contest.add_contested.Tie as tie

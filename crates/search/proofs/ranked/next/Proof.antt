@@ -1,6 +1,6 @@
 -- `search::ranked::next` meets its contract. The loop's invariant: best is the foremost of the waiting tasks passed whose rank is not below from, and
 -- best_rank its rank where there is one. The measure is what is left of the tasks. Past the row nobody waits. Assumes nothing.
-use Prim.Native.Nat.{ℕ, _+_, _≤_, _-_, min, zero-le}
+use Prim.Native.Nat.{ℕ, _≤_, _-_, min, zero-le}
 use mathlib.Core.Path.{_≡_, refl, ap, _∙_}
 use mathlib.Core.Logic.{inl, inr, ⊎-elim}
 use mathlib.Core.List.{List}

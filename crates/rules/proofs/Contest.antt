@@ -9,16 +9,19 @@ use native.Mathlib.Omega.{arith}
 use Rattle.objects.specs.Objects.{Sets, clash, clashOn, Clash}
 use Rattle.objects.proofs.Laws.Below.{below-or-from, any-witness, any-at, and-left, and-right, and-both}
 use Rattle.objects.proofs.Laws.Clash.{clash-plain, clash-on-plain}
+use Rattle.rules.specs.declared.Session.{Session}
 use Rattle.rules.specs.declared.Said.{Said}
 use Rattle.rules.specs.declared.Said.the-variants.{Ok, Run}
 use Rattle.rules.specs.declared.Answer.{Answer}
 use Rattle.rules.specs.Answers.{isWait}
+use Rattle.rules.specs.Ranking.{Ranking}
 use Rattle.rules.specs.Tasks.{taskAt, executing, setsAt, setsOf}
 use Rattle.rules.specs.Room.{rankAt}
 use Rattle.rules.specs.Contest.{clashing, blocked, contestedOn, highestClashing, Blocked, BlockedPlain, ContestedPlain, HighestClashing, HighestPlain}
 use Rattle.rules.specs.Events.{releaseNumber, refused, waitSaid}
 use Rattle.rules.specs.Reachable.{WaitSays, OthersSay, AnswerSays}
 use Rattle.rules.proofs.Laws.Foremost.{foremost-found, foremost-first}
+use Rattle.rules.proofs.Laws.Numbers.{timely}
 use Rattle.rules.proofs.Laws.Steps.{arrive-cases, release-cases, commit-cases, finish-cases, step-cases}
 
 pub blocked-plain : BlockedPlain
@@ -84,9 +87,14 @@ highest-plain rank strict s x small = (found, only)
         let same = ⊎-elim (λ l. absurd (not-above l)) (λ l. le-antisymm l (f .1)) (below-or-from (rankAt rank s h) (rankAt rank s i)) in
         strict (taskAt s i) (taskAt s h) i h (omega (arith, g .below, small)) (omega (arith, m .below, small)) same
 
+-- a session that accepts a release has an allowed n
+release-few : (rank : Ranking) (s : Session) (tick i : ℕ) → releaseNumber rank s tick i ≡ 0 → s .n ≤ 64
+unfolding releaseNumber
+release-few rank s tick i z = timely s tick i _ z .n-high
+
 -- only a release that is accepted and blocked is answered with a wait
 pub answer-says : AnswerSays
-answer-says rank strict s e small =
+answer-says rank strict s e =
     step-cases rank s e Says
     (λ kind. arrive-cases Says s refuses (e .tick) (e .task) (λ z. says-ok))
     (λ kind. release-cases Says s refuses (e .tick) (e .task) rank (e .reads) (e .writes) waits (λ z free. says-run))
@@ -113,6 +121,6 @@ answer-says rank strict s e small =
 
     waits : releaseNumber rank s (e .tick) (e .task) ≡ 0 → blocked s x ≡ true → SaysOf (waitSaid rank s x)
     waits z clashes = (
-      λ p. (refl, refl, highest-plain rank strict s x small .0 (blocked-plain s x .0 clashes)),
+      λ p. (refl, refl, highest-plain rank strict s x (release-few rank s (e .tick) (e .task) z) .0 (blocked-plain s x .0 clashes)),
       λ p. absurd (false≢true (sym p)),
     )

@@ -73,8 +73,8 @@ AcceptedOne =
 abbrev pub AdmittedFew : Type 0
 AdmittedFew = (rank : Ranking) (s : Session) (e : Event) → step rank s e .admitted .count ≤ s .m
 
--- What an answer says, by the definitions of Answers, of any session of no more than 64 tasks: 'the lowest contested object number, and how many objects are contested', and
--- since request 3 'the highest ranked executing task it clashes with', said plainly. 'In every answer but that of a release that waits, the contested object, the
+-- What an answer says, by the definitions of Answers, of any session at all: 'the lowest contested object number, and how many objects are contested', and since request 3
+-- 'the highest ranked executing task it clashes with', said plainly. 'In every answer but that of a release that waits, the contested object, the
 -- contested count and any task named with them are 0.'
 abbrev pub WaitSays : Ranking → Session → Sets → Said → Type 0
 WaitSays rank s x said = (object said ≡ lowestContested s x) × (contested said ≡ contestedCount s x) × HighestClashing rank s x (whom said)
@@ -84,6 +84,6 @@ OthersSay said = (object said ≡ 0) × (contested said ≡ 0) × (whom said ≡
 
 abbrev pub AnswerSays : Type 0
 AnswerSays =
-    (rank : Ranking) → Strict rank → (s : Session) (e : Event) → s .n ≤ 64
+    (rank : Ranking) → Strict rank → (s : Session) (e : Event)
     → (isWait (step rank s e .said) ≡ true → WaitSays rank s (setsOf (e .reads) (e .writes)) (step rank s e .said))
     × (isWait (step rank s e .said) ≡ false → OthersSay (step rank s e .said))

@@ -7,6 +7,7 @@ ghost use Rattle.rules.specs.Tasks.{known};
 ghost use Rattle.rules.specs.Events.{trying, finishNumber, early, refused, arrive, releaseAccepted, release, commit, finish, step};
 ghost use Rattle.search.specs.Rows.{rowsOf};
 ghost use Rattle.session.specs.Events.{numbered, waitIn, Releasable};
+use crate::rows::begins;
 use crate::rows::in_state;
 use crate::rows::is_waiting;
 use crate::rows::no_admissions;
@@ -23,7 +24,6 @@ use rules::Said;
 use rules::Session;
 use rules::State;
 use rules::Task;
-use rules::Wait;
 use search::Rows;
 use search::WaitsFor;
 use search::blocked;
@@ -175,12 +175,7 @@ fn released(
     if blocked(&rows.codes, &s.reads, &s.writes, n, i) {
         let found = waits_for(&rows.codes, &rows.ranks, &s.reads, &s.writes, n, i);
         let said = wait_said(found);
-        let wait = Wait {
-            release: tick,
-            clashes: 0,
-            retries: 0,
-        };
-        s.tasks[i] = with_release(t, State::Waiting(wait));
+        s.tasks[i] = with_release(t, begins(tick));
         let table = s.tasks;
         let scan = scan_of(table, &s.reads, &s.writes, n, s.m);
         let admitted = scan.admitted;

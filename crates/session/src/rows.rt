@@ -3,7 +3,7 @@ ghost use mathlib.Core.Path.{_≡_};
 ghost use mathlib.Core.Bool.{cond};
 ghost use Prim.Native.Nat.{_<_};
 ghost use Rattle.rules.specs.Tasks.{isWaiting, waitOf, inState, withGroups};
-ghost use Rattle.rules.specs.Events.{oneMore, raisedTask, released};
+ghost use Rattle.rules.specs.Events.{begins, oneMore, raisedTask, released};
 ghost use Rattle.rules.specs.Scan.{none};
 use rules::Admission;
 use rules::Admissions;
@@ -35,6 +35,18 @@ pub(crate) fn wait_of(state: State) -> Wait
         };
     };
     wait
+}
+
+// A wait that begins at this tick, with both its counts 0.
+pub(crate) fn begins(tick: u32) -> State
+    ensures { λ state. ⌜ state ≡ begins tick ⌝ }
+{
+    let wait = Wait {
+        release: tick,
+        clashes: 0,
+        retries: 0,
+    };
+    State::Waiting(wait)
 }
 
 // The task in another state.

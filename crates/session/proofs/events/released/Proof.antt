@@ -51,41 +51,44 @@ waits-for-requires c κs = search needs
 wait-said-requires : tie.Need-wait-said-requires
 wait-said-requires c κs = search needs
 
-with-release-requires : tie.Need-with-release-requires
-with-release-requires c κs = releases-few (asked-of (c .before))
+begins-requires : tie.Need-begins-requires
+begins-requires c κs = search needs
 
-mul-t37 : tie.Need-mul-t37
-mul-t37 c = search (needs, placed (c .before .before))
+with-release-requires : tie.Need-with-release-requires
+with-release-requires c κs = releases-few (asked-of (c .before .before))
+
+mul-t36 : tie.Need-mul-t36
+mul-t36 c = search (needs, placed (c .before .before .before))
 
 element-set-from-s : tie.Need-element-set-from-s
-element-set-from-s c = placed (c .before .before)
+element-set-from-s c = placed (c .before .before .before)
 
 scan-of-requires : tie.Need-scan-of-requires
 scan-of-requires c κs =
-    let ready = start-of (asked-of (c .before .before .before .before .before .before)) .pre in (ready .n-high, ready .m-high)
+    let ready = start-of (asked-of (c .before .before .before .before .before .before .before)) .pre in (ready .n-high, ready .m-high)
 
 returns : tie.Need-returns
 returns c =
     let scanned = c .before .before in
     let new = scanned .before .before .before .before .before in
-    let found = new .before .before in
+    let found = new .before .before .before in
     let asked = asked-of found in
     let put = asked .before .before .before .before .before .before in
     let start = start-of asked in
     let a = start .args in
-    scanned-is _ _ (scanned .scan-of .result) (rw (new .with-release .ensures) at (scanned .scan-of .ensures))
+    scanned-is _ _ (scanned .scan-of .result) (rw (new .with-release .ensures, new .before .begins .ensures) at (scanned .scan-of .ensures))
     ∙ released-waits (a .t1) (a .t2) (a .i) (a .reads) (a .writes) _ _ (sizes (a .t1) _ (start .good .0)) (start .pre)
     (put .before .before .put-groups .ensures) (put .put-groups2 .ensures) (a .tick) (found .waits-for .result .words) (found .waits-for .result .whom) _
     (sym (asked .blocked .ensures) ∙ found .before .before .before .before .before .before .before .if1 .taken)
     (found .waits-for .ensures .1 .0)
     (found .waits-for .ensures .1 .1)
-    (new .before .wait-said .ensures)
+    (new .before .before .wait-said .ensures)
 
 with-release-requires-2 : tie.Need-with-release-requires-2
 with-release-requires-2 c κs = releases-few (c .before)
 
-mul-t18 : tie.Need-mul-t18
-mul-t18 c = search needs
+mul-t17 : tie.Need-mul-t17
+mul-t17 c = search needs
 
 element-set-from-s-2 : tie.Need-element-set-from-s-2
 element-set-from-s-2 c = search needs
@@ -115,13 +118,14 @@ released-spec =
     blocked-requires
     waits-for-requires
     wait-said-requires
+    begins-requires
     with-release-requires
-    mul-t37
+    mul-t36
     element-set-from-s
     scan-of-requires
     returns
     with-release-requires-2
-    mul-t18
+    mul-t17
     element-set-from-s-2
     no-admissions-requires
     returns-2)

@@ -1,7 +1,7 @@
 -- What is decided of a transaction against those that execute is what is said plainly: a yes of `any` has a task that gives it, and the other way round. The task that a
 -- wait names is the foremost of those that clash, and with a strict ranking there is one foremost.
 use Prim.Native.Nat.{ℕ, _≤_, _<_}
-use mathlib.Core.Path.{_≡_, refl, sym}
+use mathlib.Core.Path.{_≡_, refl, sym, _∙_}
 use mathlib.Core.Logic.{_≢_, ⊎-elim}
 use mathlib.Core.Bool.{Bool, true, false, _&&_, false≢true}
 use native.Mathlib.Nat.{le-antisymm}
@@ -11,7 +11,7 @@ use Rattle.objects.proofs.Laws.Below.{below-or-from, any-witness, any-at, and-l
 use Rattle.objects.proofs.Laws.Clash.{clash-plain, clash-on-plain}
 use Rattle.rules.specs.declared.Session.{Session}
 use Rattle.rules.specs.declared.Said.{Said}
-use Rattle.rules.specs.declared.Said.the-variants.{Ok, Run}
+use Rattle.rules.specs.declared.Said.the-variants.{Ok, Run, No}
 use Rattle.rules.specs.declared.Answer.{Answer}
 use Rattle.rules.specs.Answers.{isWait}
 use Rattle.rules.specs.Ranking.{Ranking}
@@ -110,14 +110,17 @@ answer-says rank strict s e =
     Says : Answer → Type 0
     Says a = SaysOf (a .said)
 
+    other : (said : Said) → isWait said ≡ false → OthersSay said → SaysOf said
+    other said q zeros = (λ p. absurd (false≢true (sym q ∙ p)), λ p. zeros)
+
     says-ok : SaysOf Ok
-    says-ok = (λ p. absurd (false≢true p), λ p. (refl, refl, refl))
+    says-ok = other Ok refl (refl, refl, refl)
 
     says-run : SaysOf Run
-    says-run = (λ p. absurd (false≢true p), λ p. (refl, refl, refl))
+    says-run = other Run refl (refl, refl, refl)
 
     refuses : (k : ℕ) → k ≢ 0 → Says (refused s k)
-    refuses k d = (λ p. absurd (false≢true p), λ p. (refl, refl, refl))
+    refuses k d = other (No k) refl (refl, refl, refl)
 
     waits : releaseNumber rank s (e .tick) (e .task) ≡ 0 → blocked s x ≡ true → SaysOf (waitSaid rank s x)
     waits z clashes = (

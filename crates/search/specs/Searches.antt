@@ -5,7 +5,9 @@ use mathlib.Core.Bool.{Bool, not, _&&_, _||_}
 use lib.Dec.{eqb, leb, ltb}
 use lib.ListN.{getD}
 use Rattle.objects.specs.Below.{any, count}
-use Rattle.objects.specs.Objects.{clash, clashOn}
+use Rattle.objects.specs.Objects.{groupsAt, lowestObject, howMany, clash, clashOn}
+use Rattle.rules.specs.declared.Said.{Said}
+use Rattle.rules.specs.declared.Said.the-variants.{Wait}
 use Rattle.rules.specs.Ranking.{foremost}
 use Rattle.search.specs.Rows.{plainIn, waitingIn, executingIn, setsIn}
 
@@ -52,6 +54,10 @@ contestedIn codes reads writes n i b = any n (λ j. executingIn codes j && clash
 unfoldable pub highestIn : List ℕ → List ℕ → List ℕ → List ℕ → ℕ → ℕ → ℕ
 unfolding foremost clash
 highestIn codes ranks reads writes n i = foremost n (clashingIn codes reads writes i) (λ j. getD ranks j 0)
+
+-- what is said of a release that waits for these objects, as four words, and for this task
+abbrev pub waitIn : List ℕ → ℕ → Said
+waitIn words whom = Wait (lowestObject (groupsAt words 0)) (howMany (groupsAt words 0)) whom
 
 -- the waiting task that is next in rank, of those whose rank is not below from; 64 where there is none
 unfoldable pub nextIn : List ℕ → List ℕ → ℕ → ℕ → ℕ

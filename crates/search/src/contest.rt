@@ -5,7 +5,7 @@ ghost use lib.Bits.{bitOr};
 ghost use lib.ListN.{getD, length};
 ghost use Rattle.objects.specs.Objects.{clash, word};
 ghost use Rattle.search.specs.Rows.{setsIn, groupIn, wordIn};
-ghost use Rattle.search.specs.Searches.{contestedIn, highestIn};
+ghost use Rattle.search.specs.Searches.{contestedIn, highestIn, waitIn};
 use crate::Codes;
 use crate::Ranks;
 use crate::WaitsFor;
@@ -14,6 +14,7 @@ use crate::clash::group_of;
 use crate::seen::held;
 use crate::seen::holds;
 use objects::Groups;
+use rules::Said;
 
 // Adds to the words the objects on which the transactions of tasks i and j clash, and says whether there are any.
 fn add_contested<'a>(
@@ -74,5 +75,17 @@ pub fn waits_for<'a>(
     WaitsFor {
         words: words,
         whom: whom,
+    }
+}
+
+// What is said of a release that waits for this.
+pub fn wait_said(found: WaitsFor) -> Said
+    ensures { λ said. ⌜ said ≡ waitIn (found .words) (found .whom) ⌝ }
+{
+    let words = found.words;
+    Said::Wait {
+        object: objects::lowest_object(words),
+        contested: objects::how_many(words),
+        whom: found.whom,
     }
 }

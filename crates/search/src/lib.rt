@@ -9,6 +9,7 @@ mod seen;
 
 pub use clash::blocked;
 pub use clash::clash_of;
+pub use contest::wait_said;
 pub use contest::waits_for;
 use objects::Groups;
 pub use ranked::admissible;

@@ -1,14 +1,10 @@
--- What the private functions of the events go by: a session of which only a part is handed on, what a scan gives, what is said of a wait, and a release that no number
--- refuses.
+-- What the private functions of the events go by: a session of which only a part is handed on, what a scan gives, and a release that no number refuses.
 use Prim.Native.Nat.{ℕ, _≤_, _<_}
 use mathlib.Core.Path.{_≡_}
 use mathlib.Core.List.{List, []}
-use Rattle.objects.specs.Objects.{groupsAt, lowestObject, howMany}
 use Rattle.rules.specs.declared.State.the-variants.{Plain}
 use Rattle.rules.specs.declared.Task.{Task}
 use Rattle.rules.specs.declared.Session.{Session}
-use Rattle.rules.specs.declared.Said.{Said}
-use Rattle.rules.specs.declared.Said.the-variants.{Wait}
 use Rattle.rules.specs.Ranking.{byPriority}
 use Rattle.rules.specs.Tasks.{taskAt, stateAt}
 use Rattle.rules.specs.Scan.{scan}
@@ -29,10 +25,6 @@ abbrev pub scanIn : ℕ → ℕ → List Task → List ℕ → List ℕ → Scan
 scanIn m n tasks reads writes =
     let x = scan byPriority (tabled m n tasks reads writes) in
     record { admitted = x .admitted; tasks = x .session .tasks }
-
--- what is said of a release that waits for these objects, as four words, and for this task
-abbrev pub waitIn : List ℕ → ℕ → Said
-waitIn words whom = Wait (lowestObject (groupsAt words 0)) (howMany (groupsAt words 0)) whom
 
 -- the rows are those of the session, m and n are allowed, and task i is plain, below n, and has a release left
 pub record Releasable (s : Session) (rows : Rows) (i : ℕ) : Type 0 where

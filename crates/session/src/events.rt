@@ -6,7 +6,7 @@ ghost use Rattle.rules.specs.Ranking.{byPriority};
 ghost use Rattle.rules.specs.Tasks.{known};
 ghost use Rattle.rules.specs.Events.{trying, finishNumber, early, refused, arrive, releaseAccepted, release, commit, finish, step};
 ghost use Rattle.search.specs.Rows.{rowsOf};
-ghost use Rattle.session.specs.Events.{numbered, waitIn, Releasable};
+ghost use Rattle.session.specs.Events.{numbered, Releasable};
 use crate::rows::begins;
 use crate::rows::in_state;
 use crate::rows::is_waiting;
@@ -25,12 +25,12 @@ use rules::Session;
 use rules::State;
 use rules::Task;
 use search::Rows;
-use search::WaitsFor;
 use search::blocked;
 use search::clash_of;
 use search::ran;
 use search::room;
 use search::rows_of;
+use search::wait_said;
 use search::waits_for;
 
 // Whether m and n are allowed and the task is below n.
@@ -139,18 +139,6 @@ pub fn arrive(mut s: Session, tick: u32, task: u8) -> Answer
         said: Said::Ok,
         admitted: no_admissions(),
         session: s,
-    }
-}
-
-// What is said of a release that waits for this.
-fn wait_said(found: WaitsFor) -> Said
-    ensures { λ said. ⌜ said ≡ waitIn (found .words) (found .whom) ⌝ }
-{
-    let words = found.words;
-    Said::Wait {
-        object: objects::lowest_object(words),
-        contested: objects::how_many(words),
-        whom: found.whom,
     }
 }
 

@@ -25,9 +25,9 @@ use Rattle.rules.specs.Events.{still, scanning, released, releasedInto, begins,
 use Rattle.rules.proofs.Laws.Rows.{groups-same, groups-other, Agree, clash-is, on-agree, clash-agree}
 use Rattle.search.specs.declared.Rows.{Rows}
 use Rattle.search.specs.Rows.{executingIn, setsIn}
-use Rattle.search.specs.Searches.{blockedIn, contestedIn, highestIn}
+use Rattle.search.specs.Searches.{blockedIn, contestedIn, highestIn, waitIn}
 use Rattle.search.proofs.Laws.Seen.{SeenTasks, seen-rows, executing-seen, foremost-ext}
-use Rattle.session.specs.Events.{waitIn, Releasable}
+use Rattle.session.specs.Events.{Releasable}
 use Rattle.session.proofs.Laws.Given.{Sizes}
 
 -- ---- the contested objects as four words

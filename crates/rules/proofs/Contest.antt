@@ -24,18 +24,23 @@ use Rattle.rules.proofs.Laws.Foremost.{foremost-found, foremost-first}
 use Rattle.rules.proofs.Laws.Numbers.{timely}
 use Rattle.rules.proofs.Laws.Steps.{arrive-cases, release-cases, commit-cases, finish-cases, step-cases}
 
+-- one that it clashes with, plainly
+clashing-plain : (s : Session) (x : Sets) (j : ℕ)
+    → (clashing s x j ≡ true → (executing s j ≡ true) × Clash x (setsAt s j)) × (executing s j ≡ true → Clash x (setsAt s j) → clashing s x j ≡ true)
+clashing-plain s x j =
+    let yes = clash x (setsAt s j) in
+    let plain = clash-plain x (setsAt s j) in
+    (λ e. (and-left (executing s j) yes e, plain .0 (and-right (executing s j) yes e)), λ e c. and-both (executing s j) yes e (plain .1 c))
+
 pub blocked-plain : BlockedPlain
 unfolding blocked
 blocked-plain s x = (
   λ e.
-      let w = any-witness (s .n) with-it e in
-      let yes = clash x (setsAt s (w .0)) in
-      (w .0, w .1, and-left (executing s (w .0)) yes (w .2), clash-plain x (setsAt s (w .0)) .0 (and-right (executing s (w .0)) yes (w .2))),
-  λ b. any-at (s .n) with-it (b .0) (b .1) (and-both (executing s (b .0)) (clash x (setsAt s (b .0))) (b .2) (clash-plain x (setsAt s (b .0)) .1 (b .3))),
+      let w = any-witness (s .n) (clashing s x) e in
+      let plain = clashing-plain s x (w .0) .0 (w .2) in
+      (w .0, w .1, plain .0, plain .1),
+  λ b. any-at (s .n) (clashing s x) (b .0) (b .1) (clashing-plain s x (b .0) .1 (b .2) (b .3)),
 )
-  where
-    with-it : ℕ → Bool
-    with-it j = executing s j && clash x (setsAt s j)
 
 pub contested-plain : ContestedPlain
 unfolding contestedOn
@@ -59,20 +64,17 @@ highest-plain rank strict s x small = (found, only)
     h : ℕ
     h = highestClashing rank s x
 
-    clashes-at : (j : ℕ) → executing s j ≡ true → Clash x (setsAt s j) → clashing s x j ≡ true
-    clashes-at j e c = and-both (executing s j) (clash x (setsAt s j)) e (clash-plain x (setsAt s j) .1 c)
-
     first : (j : ℕ) → j < s .n → executing s j ≡ true → Clash x (setsAt s j) → (h ≢ 64) × (rankAt rank s h ≤ rankAt rank s j)
-    first j l e c = foremost-first (s .n) _ _ small j l (clashes-at j e c)
+    first j l e c = foremost-first (s .n) _ _ small j l (clashing-plain s x j .1 e c)
 
     is : h ≢ 64 → HighestClashing rank s x h
     is d =
         let w = foremost-found (s .n) _ _ d in
-        let yes = clash x (setsAt s h) in
+        let plain = clashing-plain s x h .0 (w .1) in
         record {
           below = w .0;
-          executes = and-left (executing s h) yes (w .1);
-          clashes = clash-plain x (setsAt s h) .0 (and-right (executing s h) yes (w .1));
+          executes = plain .0;
+          clashes = plain .1;
           highest = λ j l e c above. absurd (omega (arith, first j l e c .1, above));
         }
 

@@ -14,7 +14,7 @@ use Rattle.rules.specs.declared.Session.{Session}
 use Rattle.rules.specs.Ranking.{Ranking}
 use Rattle.rules.specs.Tasks.{isPlain, stateAt, plain, waiting, executing, setsAt}
 use Rattle.rules.specs.Room.{rankAt, plainAbove, room}
-use Rattle.rules.specs.Contest.{blocked}
+use Rattle.rules.specs.Contest.{clashing, blocked}
 use Rattle.rules.proofs.Laws.Kept.{Kept}
 use Rattle.rules.proofs.Laws.Tasks.{waiting-not-plain}
 use Rattle.rules.proofs.Laws.Keeping.{EachKept, kept-waiting, kept-plain, kept-executing, kept-sets}
@@ -33,17 +33,17 @@ pub unblocked-apart : (s : Session) (x : Sets) → blocked s x ≡ false → (j 
 unfolding blocked
 unblocked-apart s x e j l w =
     not-true-false (clash x (setsAt s j))
-    (λ p. not-both (executing s j && clash x (setsAt s j)) (and-both (executing s j) (clash x (setsAt s j)) w p)
-    (any-false (s .n) (λ i. executing s i && clash x (setsAt s i)) e j l))
+    (λ p. not-both (clashing s x j) (and-both (executing s j) (clash x (setsAt s j)) w p)
+    (any-false (s .n) (clashing s x) e j l))
 
 module _ (s s′ : Session) (kept : Kept s s′) where
   pub blocked-grows : (x : Sets) → blocked s x ≡ true → blocked s′ x ≡ true
   unfolding blocked
   blocked-grows x e =
-      ap (λ (n : ℕ). any n (λ j. executing s′ j && clash x (setsAt s′ j))) (kept .n)
-      ∙ any-mono (s .n) (λ j. executing s j && clash x (setsAt s j)) (λ j. executing s′ j && clash x (setsAt s′ j)) still e
+      ap (λ (n : ℕ). any n (clashing s′ x)) (kept .n)
+      ∙ any-mono (s .n) (clashing s x) (clashing s′ x) still e
     where
-      still : (j : ℕ) → j < s .n → (executing s j && clash x (setsAt s j)) ≡ true → (executing s′ j && clash x (setsAt s′ j)) ≡ true
+      still : (j : ℕ) → j < s .n → clashing s x j ≡ true → clashing s′ x j ≡ true
       still j l q =
           and-both (executing s′ j) (clash x (setsAt s′ j))
           (kept-executing s s′ kept j (and-left (executing s j) (clash x (setsAt s j)) q))

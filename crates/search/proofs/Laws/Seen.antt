@@ -89,11 +89,13 @@ module _ (s : Session) (codes : List ℕ) (code-is : (j : ℕ) → j < s .n → 
   pub executing-counted : count (s .n) (executingIn codes) ≡ count (s .n) (executing s)
   executing-counted = count-ext (s .n) (executingIn codes) (executing s) executing-seen
 
+  clashing-seen : (i j : ℕ) → j < s .n → clashingIn codes (s .reads) (s .writes) i j ≡ clashing s (setsAt s i) j
+  clashing-seen i j l = ap (λ (b : Bool). b && clash (setsAt s i) (setsAt s j)) (executing-seen j l)
+
   pub blocked-seen : (i : ℕ) → blockedIn codes (s .reads) (s .writes) (s .n) i ≡ blocked s (setsAt s i)
   unfolding blockedIn blocked
   blocked-seen i =
-      any-ext (s .n) (λ j. executingIn codes j && clash (setsAt s i) (setsAt s j)) (λ j. executing s j && clash (setsAt s i) (setsAt s j))
-      (λ j l. ap (λ (b : Bool). b && clash (setsAt s i) (setsAt s j)) (executing-seen j l))
+      any-ext (s .n) (clashingIn codes (s .reads) (s .writes) i) (clashing s (setsAt s i)) (clashing-seen i)
 
   pub contested-seen : (i b : ℕ) → contestedIn codes (s .reads) (s .writes) (s .n) i b ≡ contestedOn s (setsAt s i) b
   unfolding contestedIn contestedOn
@@ -148,7 +150,7 @@ module _ (s : Session) (codes ranks : List ℕ) (seen : SeenTasks (s .tasks) (s 
   unfolding highestIn highestClashing
   highest-seen i =
       foremost-ext (s .n) (clashingIn codes (s .reads) (s .writes) i) (clashing s (setsAt s i)) (λ j. getD ranks j 0) (rooms.rankAt byPriority s)
-      (λ j h. rw (executing-seen s codes (seen .code-is) j h))
+      (clashing-seen s codes (seen .code-is) i)
       (seen .rank-is)
 
   pub next-seen : (from : ℕ) → nextIn codes ranks (s .n) from ≡ next byPriority s from

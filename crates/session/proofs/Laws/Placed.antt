@@ -20,7 +20,7 @@ use Rattle.rules.specs.declared.Said.{Said}
 use Rattle.rules.specs.declared.Said.the-variants.{Run}
 use Rattle.rules.specs.Ranking.{byPriority}
 use Rattle.rules.specs.Tasks.{isExecuting, taskAt, stateAt, executing, setsAt, setsOf, withGroups}
-use Rattle.rules.specs.Contest.{blocked, contestedOn, lowestContested, contestedCount, highestClashing}
+use Rattle.rules.specs.Contest.{clashing, blocked, contestedOn, lowestContested, contestedCount, highestClashing}
 use Rattle.rules.specs.Events.{still, scanning, released, releasedInto, begins, waitSaid, releaseAccepted}
 use Rattle.rules.proofs.Laws.Rows.{groups-same, groups-other, Agree, clash-is, on-agree, clash-agree}
 use Rattle.search.specs.declared.Rows.{Rows}
@@ -49,7 +49,7 @@ module _ (words : List ℕ) (f : ℕ → Bool) (each : (g : ℕ) → g < 4 → g
   many-each = count-ext 256 (has (groupsAt words 0)) f has-each
 
 -- a transaction that clashes with an executing one has a contested object
-blocked-is : (s : Session) (x : Sets) → blocked s x ≡ any (s .n) (λ j. executing s j && clash x (setsAt s j))
+blocked-is : (s : Session) (x : Sets) → blocked s x ≡ any (s .n) (clashing s x)
 unfolding blocked
 blocked-is s x = refl
 
@@ -67,7 +67,7 @@ count-is s x = refl
 
 blocked-contested : (s : Session) (x : Sets) → blocked s x ≡ true → any 256 (contestedOn s x) ≡ true
 blocked-contested s x e =
-    let task = any-witness (s .n) (λ j. executing s j && clash x (setsAt s j)) (sym (blocked-is s x) ∙ e) in
+    let task = any-witness (s .n) (clashing s x) (sym (blocked-is s x) ∙ e) in
     let j = task .0 in
     let object = any-witness 256 (clashOn x (setsAt s j)) (sym (clash-is x (setsAt s j)) ∙ and-right (executing s j) (clash x (setsAt s j)) (task .2)) in
     any-at 256 (contestedOn s x) (object .0) (object .1)

@@ -15,8 +15,8 @@ use borrow.Author.Tests.{eq-eqb, ne-eqb}
 use Rattle.objects.specs.Below.{any}
 use Rattle.objects.specs.Objects.{clash}
 use Rattle.objects.proofs.Laws.Below.{any-empty, any-at, and-both}
-use Rattle.search.specs.Rows.{executingIn, setsIn}
-use Rattle.search.specs.Searches.{blockedIn}
+use Rattle.search.specs.Rows.{setsIn}
+use Rattle.search.specs.Searches.{clashingIn, blockedIn}
 use Rattle.search.proofs.Laws.Past.{executing-held, executing-none, told-past, told-inside, past-agrees}
 use Rattle.search.proofs.Laws.Loops.{none-more, groupClash, group-asked, group-clashes, no-group-clashes}
 use Rattle.search.proofs.clash.blocked.Statement.{statement}
@@ -26,11 +26,7 @@ module _ (codes reads writes : List ℕ) (i : ℕ) where
   abbrev clashes : ℕ → Bool
   clashes j = clash (setsIn reads writes i) (setsIn reads writes j)
 
-  -- task j is executing and clashes with task i
-  abbrev clashing : ℕ → Bool
-  clashing j = executingIn codes j && clashes j
-
-  blocked-is : (n : ℕ) → any n clashing ≡ blockedIn codes reads writes n i
+  blocked-is : (n : ℕ) → any n (clashingIn codes reads writes i) ≡ blockedIn codes reads writes n i
   unfolding blockedIn
   blocked-is n = refl
 
@@ -39,7 +35,7 @@ module _ (codes reads writes : List ℕ) (i : ℕ) where
   none-past n r w l = sym (blocked-is n) ∙ executing-none codes n clashes (λ j. past-agrees reads writes r w i l (setsIn reads writes j))
 
   -- those that the row holds are all
-  held-all : (n : ℕ) → any (min n (length codes)) clashing ≡ blockedIn codes reads writes n i
+  held-all : (n : ℕ) → any (min n (length codes)) (clashingIn codes reads writes i) ≡ blockedIn codes reads writes n i
   held-all n = executing-held codes n clashes ∙ blocked-is n
 
 abbrev Inv-loop : tie.InvT-loop
@@ -49,7 +45,7 @@ abbrev μ-loop : tie.MeasureT-loop
 μ-loop codes reads writes n i end found₀ j g₀ found g = 4 - g
 
 abbrev Inv-search : tie.InvT-search
-Inv-search codes reads writes n i end found₀ j₀ found j = (j ≤ end) × (found ≡ false) × (any j (clashing codes reads writes i) ≡ false)
+Inv-search codes reads writes n i end found₀ j₀ found j = (j ≤ end) × (found ≡ false) × (any j (clashingIn codes reads writes i) ≡ false)
 
 abbrev μ-search : tie.MeasureT-search
 μ-search codes reads writes n i end found₀ j₀ found j = end - j
@@ -80,7 +76,7 @@ held-requires c κs = search needs
 search-holds : tie.Need-search-holds Inv-loop μ-loop Inv-search μ-search
 search-holds c =
     let a = c .before .before .before .args in
-    (zero-le, refl, any-empty (clashing (a .codes .now) (a .reads .now) (a .writes .now) (a .i)))
+    (zero-le, refl, any-empty (clashingIn (a .codes .now) (a .reads .now) (a .writes .now) (a .i)))
 
 element-copy-out-if2 : tie.Need-element-copy-out-if2 Inv-loop μ-loop Inv-search μ-search
 element-copy-out-if2 c = search needs
@@ -143,7 +139,7 @@ search-again c =
     let j = head .search .j in
     let code = getD (a .codes .now) j 0 in
     let clashed = clashes (a .codes .now) (a .reads .now) (a .writes .now) (a .i) j in
-    let more = none-more j (clashing (a .codes .now) (a .reads .now) (a .writes .now) (a .i)) (head .search .inv .2) in (
+    let more = none-more j (clashingIn (a .codes .now) (a .reads .now) (a .writes .now) (a .i)) (head .search .inv .2) in (
       omega arith,
       ⊎-elim (λ w. w .3 ∙ w .1 .inv .1) (λ w. w .1 ∙ head .search .inv .1) (c .if2 .came),
       ⊎-elim
@@ -161,7 +157,7 @@ returns-2 c =
     let done : head .search .j ≡ min (a .n) (length (a .codes .now)) = omega (arith, head .before .held .ensures) in
     head .search .inv .1
     ∙ sym (sym (held-all (a .codes .now) (a .reads .now) (a .writes .now) (a .i) (a .n))
-    ∙ ap (λ (k : ℕ). any k (clashing (a .codes .now) (a .reads .now) (a .writes .now) (a .i))) (sym done)
+    ∙ ap (λ (k : ℕ). any k (clashingIn (a .codes .now) (a .reads .now) (a .writes .now) (a .i))) (sym done)
     ∙ head .search .inv .2)
 
 returns-3 : tie.Need-returns-3 Inv-loop μ-loop Inv-search μ-search
@@ -172,7 +168,7 @@ returns-3 c =
     let j = head .search .j in
     let code = getD (a .codes .now) j 0 in
     let below : j < a .n = omega (arith, head .before .held .ensures, loop .before .before .before .search-test .taken) in
-    sym (any-at (a .n) (clashing (a .codes .now) (a .reads .now) (a .writes .now) (a .i)) j below
+    sym (any-at (a .n) (clashingIn (a .codes .now) (a .reads .now) (a .writes .now) (a .i)) j below
     (and-both (eqb code 3) (clashes (a .codes .now) (a .reads .now) (a .writes .now) (a .i) j) (eq-eqb code 3 (loop .before .if2 .taken))
     (group-clashes (a .reads .now) (a .writes .now) (a .i) j (loop .loop .g) (c .before .before .before .loop-test .taken) (asked-of (c .before) ∙ c .if3 .taken))))
     ∙ blocked-is (a .codes .now) (a .reads .now) (a .writes .now) (a .i) (a .n)

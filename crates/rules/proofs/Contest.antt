@@ -6,7 +6,8 @@ use mathlib.Core.Logic.{_≢_, ⊎-elim}
 use mathlib.Core.Bool.{Bool, true, false, _&&_, false≢true}
 use native.Mathlib.Nat.{le-antisymm}
 use native.Mathlib.Omega.{arith}
-use Rattle.objects.specs.Objects.{Sets, clash, clashOn, Clash}
+use Rattle.objects.specs.Objects.{Sets, clash, clashOn, Clash, ClashOn}
+use Rattle.objects.specs.Below.{any}
 use Rattle.objects.proofs.Laws.Below.{below-or-from, any-witness, any-at, and-left, and-right, and-both}
 use Rattle.objects.proofs.Laws.Clash.{clash-plain, clash-on-plain}
 use Rattle.rules.specs.declared.Session.{Session}
@@ -24,38 +25,31 @@ use Rattle.rules.proofs.Laws.Foremost.{foremost-found, foremost-first}
 use Rattle.rules.proofs.Laws.Numbers.{timely}
 use Rattle.rules.proofs.Laws.Steps.{arrive-cases, release-cases, commit-cases, finish-cases, step-cases}
 
--- one that it clashes with, plainly
-clashing-plain : (s : Session) (x : Sets) (j : ℕ)
-    → (clashing s x j ≡ true → (executing s j ≡ true) × Clash x (setsAt s j)) × (executing s j ≡ true → Clash x (setsAt s j) → clashing s x j ≡ true)
-clashing-plain s x j =
-    let yes = clash x (setsAt s j) in
-    let plain = clash-plain x (setsAt s j) in
-    (λ e. (and-left (executing s j) yes e, plain .0 (and-right (executing s j) yes e)), λ e c. and-both (executing s j) yes e (plain .1 c))
+-- What is asked of the executing tasks, and agrees with what is said plainly of each: so it does of one that executes, and of whether there is one.
+module _ (s : Session) (P : ℕ → Bool) (Plain : ℕ → Type 0) (agree : (j : ℕ) → (P j ≡ true → Plain j) × (Plain j → P j ≡ true)) where
+  executing-plain : (j : ℕ)
+      → ((executing s j && P j) ≡ true → (executing s j ≡ true) × Plain j) × (executing s j ≡ true → Plain j → (executing s j && P j) ≡ true)
+  executing-plain j =
+      (λ e. (and-left (executing s j) (P j) e, agree j .0 (and-right (executing s j) (P j) e)), λ e c. and-both (executing s j) (P j) e (agree j .1 c))
+
+  some-plain : let with-it : ℕ → Bool = λ j. executing s j && P j in
+      let Some : Type 0 = (j : ℕ) × (j < s .n) × (executing s j ≡ true) × Plain j in
+      (any (s .n) with-it ≡ true → Some) × (Some → any (s .n) with-it ≡ true)
+  some-plain = (
+    λ e.
+        let w = any-witness (s .n) (λ j. executing s j && P j) e in
+        let plain = executing-plain (w .0) .0 (w .2) in
+        (w .0, w .1, plain .0, plain .1),
+    λ b. any-at (s .n) (λ j. executing s j && P j) (b .0) (b .1) (executing-plain (b .0) .1 (b .2) (b .3)),
+  )
 
 pub blocked-plain : BlockedPlain
 unfolding blocked
-blocked-plain s x = (
-  λ e.
-      let w = any-witness (s .n) (clashing s x) e in
-      let plain = clashing-plain s x (w .0) .0 (w .2) in
-      (w .0, w .1, plain .0, plain .1),
-  λ b. any-at (s .n) (clashing s x) (b .0) (b .1) (clashing-plain s x (b .0) .1 (b .2) (b .3)),
-)
+blocked-plain s x = some-plain s (λ j. clash x (setsAt s j)) (λ j. Clash x (setsAt s j)) (λ j. clash-plain x (setsAt s j))
 
 pub contested-plain : ContestedPlain
 unfolding contestedOn
-contested-plain s x b l = (
-  λ e.
-      let w = any-witness (s .n) with-it e in
-      let yes = clashOn x (setsAt s (w .0)) b in
-      (w .0, w .1, and-left (executing s (w .0)) yes (w .2), clash-on-plain x (setsAt s (w .0)) b l .0 (and-right (executing s (w .0)) yes (w .2))),
-  λ c.
-      any-at (s .n) with-it (c .0) (c .1)
-      (and-both (executing s (c .0)) (clashOn x (setsAt s (c .0)) b) (c .2) (clash-on-plain x (setsAt s (c .0)) b l .1 (c .3))),
-)
-  where
-    with-it : ℕ → Bool
-    with-it j = executing s j && clashOn x (setsAt s j) b
+contested-plain s x b l = some-plain s (λ j. clashOn x (setsAt s j) b) (λ j. ClashOn x (setsAt s j) b) (λ j. clash-on-plain x (setsAt s j) b l)
 
 pub highest-plain : HighestPlain
 unfolding highestClashing
@@ -64,13 +58,17 @@ highest-plain rank strict s x small = (found, only)
     h : ℕ
     h = highestClashing rank s x
 
+    plainly : (j : ℕ)
+        → (clashing s x j ≡ true → (executing s j ≡ true) × Clash x (setsAt s j)) × (executing s j ≡ true → Clash x (setsAt s j) → clashing s x j ≡ true)
+    plainly = executing-plain s (λ j. clash x (setsAt s j)) (λ j. Clash x (setsAt s j)) (λ j. clash-plain x (setsAt s j))
+
     first : (j : ℕ) → j < s .n → executing s j ≡ true → Clash x (setsAt s j) → (h ≢ 64) × (rankAt rank s h ≤ rankAt rank s j)
-    first j l e c = foremost-first (s .n) _ _ small j l (clashing-plain s x j .1 e c)
+    first j l e c = foremost-first (s .n) _ _ small j l (plainly j .1 e c)
 
     is : h ≢ 64 → HighestClashing rank s x h
     is d =
         let w = foremost-found (s .n) _ _ d in
-        let plain = clashing-plain s x h .0 (w .1) in
+        let plain = plainly h .0 (w .1) in
         record {
           below = w .0;
           executes = plain .0;

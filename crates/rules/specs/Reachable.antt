@@ -1,4 +1,5 @@
--- What holds of every session that a setup and events lead to: one record, which the fresh session has and every event keeps. Demand3 says it of every run.
+-- What holds of every session that a setup and events lead to: one record, which the fresh session has and every event keeps. Demand3 says it of every run. And what holds
+-- of every answer, on any session at all: what a refused and an accepted event change, how many are admitted, what is said of a wait.
 use Prim.Native.Nat.{ℕ, _+_, _*_, _≤_, _<_}
 use mathlib.Core.Path.{_≡_}
 use mathlib.Core.Logic.{_⊎_, _≢_}

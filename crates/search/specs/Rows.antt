@@ -50,6 +50,9 @@ waitingIn codes j = eqb (getD codes j 0) 2
 abbrev pub executingIn : List ℕ → ℕ → Bool
 executingIn codes j = eqb (getD codes j 0) 3
 
+abbrev pub rankIn : List ℕ → ℕ → ℕ
+rankIn ranks j = getD ranks j 0
+
 -- the sets of task i, in the rows of a session's sets
 abbrev pub setsIn : List ℕ → List ℕ → ℕ → Sets
 setsIn reads writes i = record { reads = groupsAt reads (i * 4); writes = groupsAt writes (i * 4) }

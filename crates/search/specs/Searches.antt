@@ -9,14 +9,14 @@ use Rattle.objects.specs.Objects.{groupsAt, lowestObject, howMany, clash, clash
 use Rattle.rules.specs.declared.Said.{Said}
 use Rattle.rules.specs.declared.Said.the-variants.{Wait}
 use Rattle.rules.specs.Ranking.{foremost}
-use Rattle.search.specs.Rows.{plainIn, waitingIn, executingIn, setsIn}
+use Rattle.search.specs.Rows.{plainIn, waitingIn, executingIn, rankIn, setsIn}
 
 -- the executing tasks and those with the code always; and of those with the code above the ones that rank above task i
 abbrev pub alwaysIn : List ℕ → ℕ → ℕ → Bool
 alwaysIn codes always j = executingIn codes j || eqb (getD codes j 0) always
 
 abbrev pub aboveIn : List ℕ → List ℕ → ℕ → ℕ → ℕ → Bool
-aboveIn codes ranks i above j = eqb (getD codes j 0) above && ltb (getD ranks j 0) (getD ranks i 0)
+aboveIn codes ranks i above j = eqb (getD codes j 0) above && ltb (rankIn ranks j) (rankIn ranks i)
 
 -- how many they are
 unfoldable pub usedIn : List ℕ → List ℕ → ℕ → ℕ → ℕ → ℕ → ℕ
@@ -27,13 +27,13 @@ usedIn codes ranks n i always above = count n (alwaysIn codes always) + count n 
 unfoldable pub roomIn : List ℕ → List ℕ → ℕ → ℕ → ℕ → Bool
 unfolding count
 roomIn codes ranks n m i =
-    ltb (count n (executingIn codes) + count n (λ j. plainIn codes j && ltb (getD ranks j 0) (getD ranks i 0))) m
+    ltb (count n (executingIn codes) + count n (λ j. plainIn codes j && ltb (rankIn ranks j) (rankIn ranks i))) m
 
 -- 'executing tasks plus all plain tasks plus waiting tasks ranked above this one are fewer than m'
 unfoldable pub ranIn : List ℕ → List ℕ → ℕ → ℕ → ℕ → Bool
 unfolding count
 ranIn codes ranks n m i =
-    let above = count n (λ j. waitingIn codes j && ltb (getD ranks j 0) (getD ranks i 0)) in
+    let above = count n (λ j. waitingIn codes j && ltb (rankIn ranks j) (rankIn ranks i)) in
     ltb (count n (executingIn codes) + count n (plainIn codes) + above) m
 
 -- task j executes, and the transaction of task i clashes with its
@@ -53,7 +53,7 @@ contestedIn codes reads writes n i b = any n (λ j. executingIn codes j && clash
 -- 'the highest ranked executing task it clashes with'; 64 where there is none
 unfoldable pub highestIn : List ℕ → List ℕ → List ℕ → List ℕ → ℕ → ℕ → ℕ
 unfolding foremost clash
-highestIn codes ranks reads writes n i = foremost n (clashingIn codes reads writes i) (λ j. getD ranks j 0)
+highestIn codes ranks reads writes n i = foremost n (clashingIn codes reads writes i) (rankIn ranks)
 
 -- what is said of a release that waits for these objects, as four words, and for this task
 abbrev pub waitIn : List ℕ → ℕ → Said
@@ -62,7 +62,7 @@ waitIn words whom = Wait (lowestObject (groupsAt words 0)) (howMany (groupsAt wo
 -- the waiting task that is next in rank, of those whose rank is not below from; 64 where there is none
 unfoldable pub nextIn : List ℕ → List ℕ → ℕ → ℕ → ℕ
 unfolding foremost
-nextIn codes ranks n from = foremost n (λ j. waitingIn codes j && leb from (getD ranks j 0)) (λ j. getD ranks j 0)
+nextIn codes ranks n from = foremost n (λ j. waitingIn codes j && leb from (rankIn ranks j)) (rankIn ranks)
 
 -- 'One that clashes with no transaction executing at that moment, and has room at that moment'
 unfoldable pub admissibleIn : List ℕ → List ℕ → List ℕ → List ℕ → ℕ → ℕ → ℕ → Bool

@@ -3,30 +3,29 @@
 use Prim.Native.Nat.{ℕ, zero, suc, _≤_, _<_}
 use mathlib.Core.Path.{_≡_, refl, sym, ap, _∙_}
 use mathlib.Core.List.{List}
-use mathlib.Core.Bool.{Bool, true, false, _&&_, _||_}
-use native.Mathlib.Nat.{lt-suc-self, le-step, lt-of-lt-of-le, le-of-eq, not-suc-le-zero}
+use mathlib.Core.Bool.{Bool, _&&_}
+use native.Mathlib.Nat.{lt-of-lt-of-le, le-of-eq, not-suc-le-zero}
 use native.Mathlib.Omega.{arith}
 use lib.Dec.{eqb, leb, ltb}
 use lib.ListN.{length, getD, set, length-set}
 use lib.Seq.{getD-set-same, getD-set-other}
-use borrow.Author.Tests.{eqb-false}
 use Rattle.objects.specs.Below.{count}
 use Rattle.objects.specs.Objects.{clash, clashOn}
-use Rattle.objects.proofs.Laws.Below.{below-less, any-ext, count-ext}
+use Rattle.objects.proofs.Laws.Below.{any-ext, count-ext}
 use Rattle.rules.specs.declared.State.{State}
 use Rattle.rules.specs.declared.State.the-variants.{Absent, Plain, Waiting, Executing}
 use Rattle.rules.specs.declared.Task.{Task}
 use Rattle.rules.specs.declared.Session.{Session}
-use Rattle.rules.specs.Ranking.{byPriority, foremost}
+use Rattle.rules.specs.Ranking.{byPriority}
 use Rattle.rules.specs.Tasks.{isPlain, isWaiting, isExecuting, noTask, stateAt, plain, waiting, executing, setsAt, inState}
 use Rattle.rules.specs.Room.{plainAbove, room, waitingAbove, ran}
 use Rattle.rules.specs.Room as rooms
 use Rattle.rules.specs.Contest.{clashing, blocked, contestedOn, highestClashing}
 use Rattle.rules.specs.Scan.{next, admissible}
-use Rattle.rules.proofs.Laws.Foremost.{ahead, foremost-found}
+use Rattle.rules.proofs.Laws.Foremost.{foremost-ext, ahead}
 use Rattle.rules.proofs.Laws.Alike.{at-or-other}
 use Rattle.search.specs.declared.Rows.{Rows}
-use Rattle.search.specs.Rows.{code, filled, codeAt, rankAt, rowsOf, plainIn, waitingIn, executingIn}
+use Rattle.search.specs.Rows.{code, filled, codeAt, rankAt, rowsOf, plainIn, waitingIn, executingIn, rankIn}
 use Rattle.search.specs.Searches.{roomIn, ranIn, clashingIn, blockedIn, contestedIn, highestIn, nextIn, admissibleIn}
 use Rattle.search.proofs.Laws.Past.{filled-size}
 use Rattle.search.proofs.Laws.Loops.{filled-more}
@@ -100,25 +99,7 @@ module _ (s : Session) (codes : List ℕ) (code-is : (j : ℕ) → j < s .n → 
   pub contested-seen : (i b : ℕ) → contestedIn codes (s .reads) (s .writes) (s .n) i b ≡ contestedOn s (setsAt s i) b
   unfolding contestedIn contestedOn
   contested-seen i b =
-      any-ext (s .n) (λ j. executingIn codes j && clashOn (setsAt s i) (setsAt s j) b) (λ j. executing s j && clashOn (setsAt s i) (setsAt s j) b)
-      (λ j l. ap (λ (x : Bool). x && clashOn (setsAt s i) (setsAt s j) b) (executing-seen j l))
-
--- ---- the foremost goes by what stands below k alone
-
-pub foremost-ext : (k : ℕ) (f g : ℕ → Bool) (r q : ℕ → ℕ) → ((j : ℕ) → j < k → f j ≡ g j) → ((j : ℕ) → j < k → r j ≡ q j)
-    → foremost k f r ≡ foremost k g q
-unfolding foremost
-foremost-ext zero f g r q same ranked = refl
-foremost-ext (suc k) f g r q same ranked =
-    let ih = foremost-ext k f g r q (below-less k (λ j. f j ≡ g j) same) (below-less k (λ j. r j ≡ q j) ranked) in
-    rw (← ih, same k (lt-suc-self k), go (eqb m 64) refl)
-  where
-    m : ℕ
-    m = foremost k f r
-
-    go : (b : Bool) → eqb m 64 ≡ b → (b || ltb (r k) (r m)) ≡ (b || ltb (q k) (q m))
-    go true e = refl
-    go false e = rw (ranked k (lt-suc-self k), ranked m (le-step (foremost-found k f r (eqb-false m 64 e) .0)))
+      any-ext (s .n) _ _ (λ j l. ap (λ (x : Bool). x && clashOn (setsAt s i) (setsAt s j) b) (executing-seen j l))
 
 -- ---- by the codes and the ranks
 
@@ -128,10 +109,10 @@ module _ (s : Session) (codes ranks : List ℕ) (seen : SeenTasks (s .tasks) (s 
   room-seen i l =
       rw (
         executing-counted s codes (seen .code-is),
-        count-ext (s .n) (λ j. plainIn codes j && ltb (getD ranks j 0) (getD ranks i 0)) (plainAbove byPriority s i) above,
+        count-ext (s .n) (λ j. plainIn codes j && ltb (rankIn ranks j) (rankIn ranks i)) (plainAbove byPriority s i) above,
       )
     where
-      above : (j : ℕ) → j < s .n → (plainIn codes j && ltb (getD ranks j 0) (getD ranks i 0)) ≡ plainAbove byPriority s i j
+      above : (j : ℕ) → j < s .n → (plainIn codes j && ltb (rankIn ranks j) (rankIn ranks i)) ≡ plainAbove byPriority s i j
       above j h = rw (plain-seen s codes (seen .code-is) j h, seen .rank-is j h, seen .rank-is i l)
 
   pub ran-seen : (i : ℕ) → i < s .n → ranIn codes ranks (s .n) (s .m) i ≡ ran byPriority s i
@@ -140,23 +121,23 @@ module _ (s : Session) (codes ranks : List ℕ) (seen : SeenTasks (s .tasks) (s 
       rw (
         executing-counted s codes (seen .code-is),
         count-ext (s .n) (plainIn codes) (plain s) (plain-seen s codes (seen .code-is)),
-        count-ext (s .n) (λ j. waitingIn codes j && ltb (getD ranks j 0) (getD ranks i 0)) (waitingAbove byPriority s i) above,
+        count-ext (s .n) (λ j. waitingIn codes j && ltb (rankIn ranks j) (rankIn ranks i)) (waitingAbove byPriority s i) above,
       )
     where
-      above : (j : ℕ) → j < s .n → (waitingIn codes j && ltb (getD ranks j 0) (getD ranks i 0)) ≡ waitingAbove byPriority s i j
+      above : (j : ℕ) → j < s .n → (waitingIn codes j && ltb (rankIn ranks j) (rankIn ranks i)) ≡ waitingAbove byPriority s i j
       above j h = rw (waiting-seen s codes (seen .code-is) j h, seen .rank-is j h, seen .rank-is i l)
 
   pub highest-seen : (i : ℕ) → highestIn codes ranks (s .reads) (s .writes) (s .n) i ≡ highestClashing byPriority s (setsAt s i)
   unfolding highestIn highestClashing
   highest-seen i =
-      foremost-ext (s .n) (clashingIn codes (s .reads) (s .writes) i) (clashing s (setsAt s i)) (λ j. getD ranks j 0) (rooms.rankAt byPriority s)
+      foremost-ext (s .n) (clashingIn codes (s .reads) (s .writes) i) (clashing s (setsAt s i)) (rankIn ranks) (rooms.rankAt byPriority s)
       (clashing-seen s codes (seen .code-is) i)
       (seen .rank-is)
 
   pub next-seen : (from : ℕ) → nextIn codes ranks (s .n) from ≡ next byPriority s from
   unfolding nextIn next
   next-seen from =
-      foremost-ext (s .n) (λ j. waitingIn codes j && leb from (getD ranks j 0)) (ahead byPriority s from) (λ j. getD ranks j 0) (rooms.rankAt byPriority s)
+      foremost-ext (s .n) (λ j. waitingIn codes j && leb from (rankIn ranks j)) (ahead byPriority s from) (rankIn ranks) (rooms.rankAt byPriority s)
       (λ j h. rw (waiting-seen s codes (seen .code-is) j h, seen .rank-is j h))
       (seen .rank-is)
 

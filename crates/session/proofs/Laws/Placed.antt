@@ -22,11 +22,12 @@ use Rattle.rules.specs.Ranking.{byPriority}
 use Rattle.rules.specs.Tasks.{isExecuting, taskAt, stateAt, executing, setsAt, setsOf, withGroups}
 use Rattle.rules.specs.Contest.{clashing, blocked, contestedOn, lowestContested, contestedCount, highestClashing}
 use Rattle.rules.specs.Events.{still, scanning, released, releasedInto, begins, waitSaid, releaseAccepted}
+use Rattle.rules.proofs.Laws.Foremost.{foremost-ext}
 use Rattle.rules.proofs.Laws.Rows.{groups-same, groups-other, Agree, clash-is, on-agree, clash-agree}
 use Rattle.search.specs.declared.Rows.{Rows}
 use Rattle.search.specs.Rows.{executingIn, setsIn}
 use Rattle.search.specs.Searches.{blockedIn, contestedIn, highestIn, waitIn}
-use Rattle.search.proofs.Laws.Seen.{SeenTasks, seen-rows, executing-seen, foremost-ext}
+use Rattle.search.proofs.Laws.Seen.{SeenTasks, seen-rows, executing-seen}
 use Rattle.session.specs.Events.{Releasable}
 use Rattle.session.proofs.Laws.Given.{Sizes}
 

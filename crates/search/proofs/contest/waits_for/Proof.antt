@@ -18,10 +18,10 @@ use Rattle.objects.proofs.Laws.Below.{any-empty, any-more, and-both}
 use Rattle.objects.proofs.Laws.Bits.{bit-zero, bit-or, bit-word, word-lt, word-ext, word-eq}
 use Rattle.objects.proofs.Laws.Clash.{contested-bit, contested-lt, clash-on-split}
 use Rattle.rules.specs.Ranking.{foremost}
-use Rattle.search.specs.Rows.{executingIn, setsIn, groupIn, wordIn}
+use Rattle.rules.proofs.Laws.Foremost.{foremost-none, Best, best-none, best-taken, best-passed, best-stays}
+use Rattle.search.specs.Rows.{executingIn, rankIn, setsIn, groupIn, wordIn}
 use Rattle.search.specs.Searches.{clashingIn, contestedIn, highestIn}
 use Rattle.search.proofs.Laws.Past.{absent-past, foremost-held, executing-held, executing-none, past-agrees, past-agrees-on}
-use Rattle.search.proofs.Laws.Loops.{foremost-none, Best, best-none, best-taken, best-passed, best-stays}
 use Rattle.search.proofs.contest.waits_for.Statement.{statement}
 use Rattle.search.proofs.contest.waits_for.Tie as tie
 
@@ -102,10 +102,10 @@ module _ (codes reads writes : List ℕ) (i : ℕ) where
       ∙ word-ext 64 _ _ (λ b h. executing-held codes n (clashes (g * 64 + b)) ∙ contested-is n (g * 64 + b))
 
   highest-is : (n : ℕ) (ranks : List ℕ)
-      → foremost (min n (length codes)) (clashingIn codes reads writes i) (λ j. getD ranks j 0) ≡ highestIn codes ranks reads writes n i
+      → foremost (min n (length codes)) (clashingIn codes reads writes i) (rankIn ranks) ≡ highestIn codes ranks reads writes n i
   unfolding highestIn
   highest-is n ranks =
-      foremost-held codes n (clashingIn codes reads writes i) (λ j l. rw (absent-past codes 3 j refl l)) (λ j. getD ranks j 0)
+      foremost-held codes n (clashingIn codes reads writes i) (λ j l. rw (absent-past codes 3 j refl l)) (rankIn ranks)
 
   -- where task i stands past the rows
   module _ (n : ℕ) (r : length reads ≡ 256) (w : length writes ≡ 256) (past : 64 ≤ i) where
@@ -119,12 +119,12 @@ module _ (codes reads writes : List ℕ) (i : ℕ) where
     highest-past : (ranks : List ℕ) → 64 ≡ highestIn codes ranks reads writes n i
     unfolding highestIn
     highest-past ranks =
-        sym (foremost-none n (clashingIn codes reads writes i) (λ j. getD ranks j 0)
+        sym (foremost-none n (clashingIn codes reads writes i) (rankIn ranks)
         (λ j. ap (λ (b : Bool). executingIn codes j && b) (past-agrees reads writes r w i past (setsIn reads writes j)) ∙ and-false (executingIn codes j)))
 
 abbrev Inv-loop : tie.InvT-loop
 Inv-loop codes ranks reads writes n i words₀ whom₀ end highest₀ j₀ words whom highest j =
-    (j ≤ end) × Words codes reads writes i j words × Best ranks (clashingIn codes reads writes i) j whom highest
+    (j ≤ end) × Words codes reads writes i j words × Best (clashingIn codes reads writes i) (rankIn ranks) j whom highest
 
 abbrev μ-loop : tie.MeasureT-loop
 μ-loop codes ranks reads writes n i words₀ whom₀ end highest₀ j₀ words whom highest j = end - j
@@ -148,7 +148,7 @@ loop-holds c =
     let a = c .before .before .before .args in (
       zero-le,
       words-none (a .codes .now) (a .reads .now) (a .writes .now) (a .i),
-      best-none (a .ranks .now) (clashingIn (a .codes .now) (a .reads .now) (a .writes .now) (a .i)),
+      best-none (clashingIn (a .codes .now) (a .reads .now) (a .writes .now) (a .i)) (rankIn (a .ranks .now)) 0,
     )
 
 element-copy-out-if2 : tie.Need-element-copy-out-if2 Inv-loop μ-loop
@@ -190,9 +190,9 @@ loop-again c =
     let clashed = clash (setsIn (a .reads .now) (a .writes .now) (a .i)) (setsIn (a .reads .now) (a .writes .now) j) in
     let added = task-added (a .codes .now) (a .reads .now) (a .writes .now) (a .i) j (loop .words) (c .if2 .words) in
     let idle = task-passed (a .codes .now) (a .reads .now) (a .writes .now) (a .i) j (loop .words) (c .if2 .words) in
-    let goes-on = best-taken (a .ranks .now) asked j (loop .whom) (loop .highest) (loop .inv .2) (c .if2 .whom) (c .if2 .highest) in
-    let stays = best-stays (a .ranks .now) asked j (loop .whom) (loop .highest) (loop .inv .2) (c .if2 .whom) (c .if2 .highest) in
-    let passes = best-passed (a .ranks .now) asked j (loop .whom) (loop .highest) (loop .inv .2) (c .if2 .whom) (c .if2 .highest) in (
+    let goes-on = best-taken asked (rankIn (a .ranks .now)) j (loop .whom) (loop .highest) (loop .inv .2) (c .if2 .whom) (c .if2 .highest) in
+    let stays = best-stays asked (rankIn (a .ranks .now)) j (loop .whom) (loop .highest) (loop .inv .2) (c .if2 .whom) (c .if2 .highest) in
+    let passes = best-passed asked (rankIn (a .ranks .now)) j (loop .whom) (loop .highest) (loop .inv .2) (c .if2 .whom) (c .if2 .highest) in (
       omega arith,
       ⊎-elim
           (λ w. added _ (eq-eqb code 3 (w .0 .taken)) (loop .inv .1) (w .2 .ensures .1 .0) (w .2 .ensures .1 .1) (w .6))
@@ -225,7 +225,7 @@ returns c =
       (
         words-are (a .codes .now) (a .reads .now) (a .writes .now) (a .i) (head .loop .j) (a .n) (head .loop .words) done (head .loop .inv .1),
         head .loop .inv .2 .first
-            ∙ ap (λ (k : ℕ). foremost k asked (λ j. getD (a .ranks .now) j 0)) done
+            ∙ ap (λ (k : ℕ). foremost k asked (rankIn (a .ranks .now))) done
             ∙ highest-is (a .codes .now) (a .reads .now) (a .writes .now) (a .i) (a .n) (a .ranks .now),
       ),
     )

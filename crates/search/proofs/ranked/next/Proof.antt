@@ -12,24 +12,24 @@ use borrow.Author.Needs.{needs}
 use borrow.Author.Tests.{eq-eqb, ne-eqb, le-leb, lt-leb}
 use Rattle.objects.proofs.Laws.Below.{and-both}
 use Rattle.rules.specs.Ranking.{foremost}
-use Rattle.search.specs.Rows.{waitingIn}
+use Rattle.rules.proofs.Laws.Foremost.{Best, best-none, best-taken, best-passed, best-stays}
+use Rattle.search.specs.Rows.{waitingIn, rankIn}
 use Rattle.search.specs.Searches.{nextIn}
 use Rattle.search.proofs.Laws.Past.{absent-past, foremost-held}
-use Rattle.search.proofs.Laws.Loops.{Best, best-none, best-taken, best-passed, best-stays}
 use Rattle.search.proofs.ranked.next.Statement.{statement}
 use Rattle.search.proofs.ranked.next.Tie as tie
 
 -- a waiting task whose rank is not below from
 abbrev ahead : List ℕ → List ℕ → ℕ → ℕ → Bool
-ahead codes ranks from k = waitingIn codes k && leb from (getD ranks k 0)
+ahead codes ranks from k = waitingIn codes k && leb from (rankIn ranks k)
 
 -- those that the row holds are all
-next-is : (codes ranks : List ℕ) (n from : ℕ) → foremost (min n (length codes)) (ahead codes ranks from) (λ j. getD ranks j 0) ≡ nextIn codes ranks n from
+next-is : (codes ranks : List ℕ) (n from : ℕ) → foremost (min n (length codes)) (ahead codes ranks from) (rankIn ranks) ≡ nextIn codes ranks n from
 unfolding nextIn
-next-is codes ranks n from = foremost-held codes n (ahead codes ranks from) (λ j l. rw (absent-past codes 2 j refl l)) (λ j. getD ranks j 0)
+next-is codes ranks n from = foremost-held codes n (ahead codes ranks from) (λ j l. rw (absent-past codes 2 j refl l)) (rankIn ranks)
 
 abbrev Inv-loop : tie.InvT-loop
-Inv-loop codes ranks n from end best₀ best-rank₀ j₀ best best-rank j = (j ≤ end) × Best ranks (ahead codes ranks from) j best best-rank
+Inv-loop codes ranks n from end best₀ best-rank₀ j₀ best best-rank j = (j ≤ end) × Best (ahead codes ranks from) (rankIn ranks) j best best-rank
 
 abbrev μ-loop : tie.MeasureT-loop
 μ-loop codes ranks n from end best₀ best-rank₀ j₀ best best-rank j = end - j
@@ -38,7 +38,7 @@ held-requires : tie.Need-held-requires Inv-loop μ-loop
 held-requires c κs = search needs
 
 loop-holds : tie.Need-loop-holds Inv-loop μ-loop
-loop-holds c = let a = c .before .args in (zero-le, best-none (a .ranks .now) (ahead (a .codes .now) (a .ranks .now) (a .from)))
+loop-holds c = let a = c .before .args in (zero-le, best-none (ahead (a .codes .now) (a .ranks .now) (a .from)) (rankIn (a .ranks .now)) 0)
 
 element-copy-out-if1 : tie.Need-element-copy-out-if1 Inv-loop μ-loop
 element-copy-out-if1 c = search needs
@@ -60,13 +60,13 @@ loop-again c =
     let args = c .before .before .before .before .before .args in
     let loop = c .before .before .before .loop in
     let code = getD (args .codes .now) (loop .j) 0 in
-    let rank = getD (args .ranks .now) (loop .j) 0 in
+    let rank = rankIn (args .ranks .now) (loop .j) in
     let asked = ahead (args .codes .now) (args .ranks .now) (args .from) in
     let waits = eqb code 2 in
     let from-it = leb (args .from) rank in
-    let goes-on = best-taken (args .ranks .now) asked (loop .j) (loop .best) (loop .best-rank) (loop .inv .1) (c .if1 .best) (c .if1 .best-rank) in
-    let stays = best-stays (args .ranks .now) asked (loop .j) (loop .best) (loop .best-rank) (loop .inv .1) (c .if1 .best) (c .if1 .best-rank) in
-    let passes = best-passed (args .ranks .now) asked (loop .j) (loop .best) (loop .best-rank) (loop .inv .1) (c .if1 .best) (c .if1 .best-rank) in (
+    let goes-on = best-taken asked (rankIn (args .ranks .now)) (loop .j) (loop .best) (loop .best-rank) (loop .inv .1) (c .if1 .best) (c .if1 .best-rank) in
+    let stays = best-stays asked (rankIn (args .ranks .now)) (loop .j) (loop .best) (loop .best-rank) (loop .inv .1) (c .if1 .best) (c .if1 .best-rank) in
+    let passes = best-passed asked (rankIn (args .ranks .now)) (loop .j) (loop .best) (loop .best-rank) (loop .inv .1) (c .if1 .best) (c .if1 .best-rank) in (
       omega arith,
       ⊎-elim
           (λ w. goes-on
@@ -86,7 +86,7 @@ returns c =
     let args = c .before .before .before .args in
     let done : c .before .loop .j ≡ min (args .n) (length (args .codes .now)) = omega (arith, c .before .before .held .ensures) in
     c .before .loop .inv .1 .first
-    ∙ ap (λ (k : ℕ). foremost k (ahead (args .codes .now) (args .ranks .now) (args .from)) (λ j. getD (args .ranks .now) j 0)) done
+    ∙ ap (λ (k : ℕ). foremost k (ahead (args .codes .now) (args .ranks .now) (args .from)) (rankIn (args .ranks .now))) done
     ∙ next-is (args .codes .now) (args .ranks .now) (args .n) (args .from)
 
 pub next-spec : {M : Type 1} → statement M

@@ -9,7 +9,7 @@ use Rattle.rules.specs.Ranking.{Ranking, Strict, foremost}
 use Rattle.rules.specs.Tasks.{executing, setsAt}
 use Rattle.rules.specs.Room.{rankAt}
 
--- task j executes, and it clashes with its transaction
+-- an 'executing task it clashes with': task j executes, and the transaction clashes with that of task j
 abbrev pub clashing : Session → Sets → ℕ → Bool
 clashing s x j = executing s j && clash x (setsAt s j)
 

@@ -1,22 +1,35 @@
 //! Compares another replay program with this one, log by log.
 
-use std::ffi::OsString;
+use std::ffi::{OsStr, OsString};
+use std::fs::{self, File};
 use std::io::{self, Write};
-use std::process::Stdio;
 
 use crate::damage::{make, DAMAGES};
+use crate::expected::{Expected, Given};
+use crate::folder::Folder;
+use crate::input::STANDARD_INPUT;
 use crate::lines::replay;
 use crate::log::{Fault, LogReader};
 use crate::log_counts::LogCounts;
-use crate::other::{first_difference, said_by, Feeding};
+use crate::other::{first_difference, Feeding};
 use crate::random::Size;
 use crate::rules::Refusal;
 use crate::score::Score;
-use crate::text::{log_of_text, text_of_log};
-use crate::vectors::{BAD_TEXTS, SESSIONS};
+use crate::text::{log_of_text, text_of_log, TextError};
+use crate::vectors::{BAD_TEXTS, COMMENTED_TEXT, SESSIONS, WHOLE_TEXT};
 
 /// How many logs of each kind of damage there are.
 const DAMAGED_SEEDS: usize = 40;
+
+/// Names of logs, some of them no plain words.
+const NAMES: [&[u8]; 6] = [
+    b"a log",
+    b" blanks  at both ends ",
+    b"-",
+    b"--help",
+    b"tab\tnew\nline 'quote' \"$HOME\" *",
+    b"no text \xff\xfe",
+];
 
 /// Compares on every log, and prints what failed, the counts, and a last line of sums.
 /// True if nothing failed.
@@ -33,7 +46,9 @@ pub fn compare(program: &[OsString], report: &mut impl Write) -> io::Result<bool
     comparison.small_logs()?;
     comparison.large_logs()?;
     comparison.slow_logs()?;
-    comparison.bad_texts()?;
+    comparison.names()?;
+    comparison.wrong_calls()?;
+    comparison.texts()?;
     comparison.sums()
 }
 
@@ -147,22 +162,25 @@ impl<W: Write> Comparison<'_, W> {
         }
         let mut lines = Vec::new();
         let counts = &mut self.counts;
-        let bad = replay(log, &mut lines, |session, task, reply| {
+        let fault = replay(log, &mut lines, |session, task, reply| {
             counts.book_event(session, task, reply)
         })?;
+        let bad = fault.and_then(|fault| fault.refusal());
         self.counts.book_end(bad);
-        match said_by(self.program, &[], log, feeding, Stdio::inherit())? {
-            None => self
-                .score
-                .book(false, &format!("{name}: the other program was killed"))?,
-            Some(said) if said.output != lines => {
-                let what = first_difference(&lines, &said.output);
-                self.score
-                    .book(false, &format!("{name}{}\n{what}", feeding.in_words()))?;
-            }
-            Some(_) => self.score.book(true, "")?,
-        }
+        let given = Given {
+            words: &[],
+            input: log,
+            feeding,
+        };
+        let what = format!("{name}{}", feeding.in_words());
+        self.run(&what, &expected(lines, bad), &given)?;
         self.round_trip(name, log, bad)
+    }
+
+    /// Compares one run of the other program with what it must say.
+    fn run(&mut self, what: &str, expected: &Expected, given: &Given) -> io::Result<()> {
+        let fault = expected.fault(self.program, given)?;
+        self.score.book_run(what, fault)
     }
 
     /// The text of a log gives the same log again; a bad log has no text, for the same reason.
@@ -176,14 +194,95 @@ impl<W: Write> Comparison<'_, W> {
         self.score.book(passed, &format!("{name}: text and back"))
     }
 
-    /// Texts that have no log, each refused in the right line.
-    fn bad_texts(&mut self) -> io::Result<()> {
-        for (line, text) in BAD_TEXTS {
-            let found = log_of_text(text.as_bytes()).err().map(|error| error.line);
-            let what = format!("text refused in line {line}, not {found:?}:\n{text}");
-            self.score.book(found == Some(line), &what)?;
+    /// Texts that have no log, each refused in the right line and with the right words; and one
+    /// with comments in every place, which has the same log as without.
+    fn texts(&mut self) -> io::Result<()> {
+        for (line, words, text) in BAD_TEXTS {
+            let found = log_of_text(text.as_bytes()).err();
+            let right = |error: &TextError| error.line == line && error.what.contains(words);
+            let what =
+                format!("text refused in line {line} with {words:?}, not {found:?}:\n{text}");
+            self.score.book(found.as_ref().is_some_and(right), &what)?;
+        }
+        let commented = log_of_text(COMMENTED_TEXT.as_bytes()).ok();
+        let plain = log_of_text(WHOLE_TEXT.as_bytes()).ok();
+        self.score.book(
+            commented.is_some() && commented == plain,
+            "a text with comments",
+        )
+    }
+
+    /// Logs by name: good and bad ones, ones that cannot be read, and standard input by its name.
+    /// What stands on standard input is another log, which a program that is given a name leaves.
+    fn names(&mut self) -> io::Result<()> {
+        let good = log_of_text(SESSIONS[0].text.as_bytes()).unwrap_or_default();
+        let bad = &good[..good.len() - 1];
+        let folder = Folder::new("compare")?;
+        fs::create_dir(folder.path().join("folder"))?;
+        for file in NAMES {
+            let name = folder.name(file);
+            for (log, other) in [(&good[..], bad), (bad, &good[..])] {
+                fs::write(&name, log)?;
+                self.named(&name, log, other)?;
+            }
+        }
+        for log in [&good[..], bad] {
+            self.named(&STANDARD_INPUT.into(), log, log)?;
+        }
+        for file in [&b"missing"[..], b"folder", b"a log/below a file"] {
+            let name = folder.name(file);
+            let expected = Expected::unreadable(&name);
+            self.called(&format!("the name {name:?}"), &expected, &[name], &good)?;
+        }
+        let expected = Expected::unreadable_input();
+        let fault = expected.fault_of_input(self.program, &[], File::open(folder.path())?)?;
+        self.score.book_run("a folder as standard input", fault)
+    }
+
+    /// One log by its name, with another one on standard input.
+    fn named(&mut self, name: &OsString, log: &[u8], input: &[u8]) -> io::Result<()> {
+        let mut lines = Vec::new();
+        let fault = replay(log, &mut lines, |_, _, _| {})?;
+        let expected = expected(lines, fault.and_then(|fault| fault.refusal()));
+        let what = format!("the name {name:?}");
+        self.called(&what, &expected, std::slice::from_ref(name), input)
+    }
+
+    /// A word too many, and flags that nobody knows.
+    fn wrong_calls(&mut self) -> io::Result<()> {
+        let folder = Folder::new("compare")?;
+        let good = log_of_text(SESSIONS[0].text.as_bytes()).unwrap_or_default();
+        let name = folder.name(b"a log");
+        fs::write(&name, &good)?;
+        let calls: [&[&OsStr]; 6] = [
+            &[&name, &name],
+            &[OsStr::new("-"), &name],
+            &[OsStr::new("-"), OsStr::new("-")],
+            &[OsStr::new("--unknown")],
+            &[OsStr::new("-u"), &name],
+            &[&name, OsStr::new("-u")],
+        ];
+        for words in calls {
+            let words: Vec<OsString> = words.iter().map(|word| word.to_os_string()).collect();
+            let expected = Expected::called_wrongly();
+            self.called(&format!("called with {words:?}"), &expected, &words, &good)?;
         }
         Ok(())
+    }
+
+    fn called(
+        &mut self,
+        what: &str,
+        expected: &Expected,
+        words: &[OsString],
+        input: &[u8],
+    ) -> io::Result<()> {
+        let given = Given {
+            words,
+            input,
+            feeding: Feeding::AtOnce,
+        };
+        self.run(what, expected, &given)
     }
 
     /// Prints the counts, holds them to what must have come up, and prints the last line.
@@ -197,5 +296,13 @@ impl<W: Write> Comparison<'_, W> {
             self.logs, self.round_trips
         )?;
         self.score.last_line()
+    }
+}
+
+/// What a replay must say: these lines, of a log that is good or bad.
+fn expected(lines: Vec<u8>, bad: Option<Refusal>) -> Expected {
+    match bad {
+        None => Expected::good(lines),
+        Some(_) => Expected::bad(lines),
     }
 }

@@ -1,7 +1,9 @@
 //! A folder for logs in the place for temporary files, removed at the end.
 
+use std::ffi::{OsStr, OsString};
 use std::fs;
 use std::io;
+use std::os::unix::ffi::OsStrExt;
 use std::path::{Path, PathBuf};
 
 pub struct Folder(PathBuf);
@@ -17,6 +19,25 @@ impl Folder {
 
     pub fn path(&self) -> &Path {
         &self.0
+    }
+
+    /// The whole name of a file in the folder, by its bytes.
+    pub fn name(&self, file: &[u8]) -> OsString {
+        let mut name = self.0.as_os_str().to_os_string();
+        name.push("/");
+        name.push(OsStr::from_bytes(file));
+        name
+    }
+
+    /// Puts logs into the folder, and gives their names.
+    pub fn put(&self, logs: &[impl AsRef<[u8]>]) -> io::Result<Vec<OsString>> {
+        let mut names = Vec::new();
+        for (place, log) in logs.iter().enumerate() {
+            let name = self.name(format!("log {}", place + 1).as_bytes());
+            fs::write(&name, log)?;
+            names.push(name);
+        }
+        Ok(names)
     }
 }
 

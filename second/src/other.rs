@@ -1,11 +1,16 @@
 //! The other program of a comparison: how it is started, how a log is given to it on standard
-//! input, what it says, and where that differs from what this program says.
+//! input, what it says and how it ends, and where its lines differ from this program's.
 
 use std::ffi::OsString;
+use std::fs::File;
 use std::io::{self, Write};
-use std::process::{ChildStdin, Command, Stdio};
+use std::process::{Child, ChildStdin, Command, Output, Stdio};
+use std::sync::mpsc::{self, Receiver};
 use std::thread;
 use std::time::Duration;
+
+/// How long a pipe is left open for a program that should not wait for its end.
+const PATIENCE: Duration = Duration::from_secs(30);
 
 /// How the bytes of a log are given to the other program.
 #[derive(Clone, Copy)]
@@ -13,6 +18,8 @@ pub enum Feeding {
     AtOnce,
     /// In pieces of so many bytes, with a pause after each.
     InPieces(usize),
+    /// In such pieces, and then the pipe is left open until the program has ended.
+    LeftOpen(usize),
 }
 
 impl Feeding {
@@ -20,63 +27,99 @@ impl Feeding {
         match self {
             Feeding::AtOnce => String::new(),
             Feeding::InPieces(bytes) => format!(", in pieces of {bytes}"),
+            Feeding::LeftOpen(bytes) => format!(", in pieces of {bytes} and left open"),
         }
     }
 
-    /// Gives a log to a program. One that stops reading early is no fault of the feeding.
-    fn feed(self, mut pipe: ChildStdin, log: &[u8]) {
+    /// Gives a log to a program. One that stops reading early is no fault of the feeding. False if
+    /// a pipe that was left open had to be closed before the program ended.
+    fn feed(self, mut pipe: ChildStdin, log: &[u8], ended: Receiver<()>) -> bool {
         match self {
             Feeding::AtOnce => {
                 let _ = pipe.write_all(log);
             }
-            Feeding::InPieces(bytes) => {
+            Feeding::InPieces(bytes) | Feeding::LeftOpen(bytes) => {
                 for piece in log.chunks(bytes) {
                     if pipe.write_all(piece).and_then(|()| pipe.flush()).is_err() {
-                        return;
+                        break;
                     }
                     thread::sleep(Duration::from_micros(20));
                 }
             }
         }
+        !matches!(self, Feeding::LeftOpen(_)) || ended.recv_timeout(PATIENCE).is_ok()
     }
 }
 
-/// What a program wrote. Of standard error only what was kept, and not shown.
+/// What a program wrote, and how it ended. Of standard error only what was kept, and not shown.
 pub struct Said {
     pub output: Vec<u8>,
     pub errors: Vec<u8>,
+    pub status: i32,
+    /// Whether it ended while its standard input was left open, where that was so.
+    pub in_time: bool,
 }
 
-/// What the other program says when these names are given to it behind its own arguments, and
+/// What the other program says when these words are given to it behind its own arguments, and
 /// this log on standard input; nothing if a signal ended it. `errors` is `Stdio::piped()` for a
 /// standard error that is kept.
 pub fn said_by(
     program: &[OsString],
-    names: &[OsString],
+    words: &[OsString],
     log: &[u8],
     feeding: Feeding,
     errors: Stdio,
 ) -> io::Result<Option<Said>> {
+    let mut child = start(program, words, Stdio::piped(), errors)?;
+    let pipe = child.stdin.take();
+    let (end, ended) = mpsc::channel();
+    let (output, in_time) = thread::scope(|scope| {
+        // The log goes in from another thread, so that neither pipe can fill up and block.
+        let feeder = scope.spawn(move || pipe.map(|pipe| feeding.feed(pipe, log, ended)));
+        let output = child.wait_with_output();
+        // One that does not wait for the end has gone.
+        let _ = end.send(());
+        (output, feeder.join())
+    });
+    Ok(said(output?, in_time.is_ok_and(|fed| fed == Some(true))))
+}
+
+/// What the other program says when its standard input is this file.
+pub fn said_of_input(
+    program: &[OsString],
+    words: &[OsString],
+    input: File,
+) -> io::Result<Option<Said>> {
+    let child = start(program, words, input.into(), Stdio::piped())?;
+    Ok(said(child.wait_with_output()?, true))
+}
+
+fn start(
+    program: &[OsString],
+    words: &[OsString],
+    input: Stdio,
+    errors: Stdio,
+) -> io::Result<Child> {
     let mut command = Command::new(&program[0]);
     command
         .args(&program[1..])
-        .args(names)
-        .stdin(Stdio::piped())
+        .args(words)
+        .stdin(input)
         .stdout(Stdio::piped())
         .stderr(errors);
-    let mut child = command
+    command
         .spawn()
-        .map_err(|error| cannot_start(program, error))?;
-    let pipe = child.stdin.take();
-    let output = thread::scope(|scope| {
-        // The log goes in from another thread, so that neither pipe can fill up and block.
-        scope.spawn(move || pipe.map(|pipe| feeding.feed(pipe, log)));
-        child.wait_with_output()
-    })?;
-    Ok(output.status.code().map(|_| Said {
+        .map_err(|error| cannot_start(program, error))
+}
+
+fn said(output: Output, in_time: bool) -> Option<Said> {
+    let status = output.status.code()?;
+    Some(Said {
         output: output.stdout,
         errors: output.stderr,
-    }))
+        status,
+        in_time,
+    })
 }
 
 pub fn cannot_start(program: &[OsString], error: io::Error) -> io::Error {

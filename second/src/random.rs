@@ -322,7 +322,8 @@ pub fn log_of_waits(random: &mut Random, waits: &[u32]) -> Vec<u8> {
     maker.end()
 }
 
-fn mixed_setup(random: &mut Random, size: Size) -> Setup {
+/// A setup of any kind that is allowed.
+pub fn mixed_setup(random: &mut Random, size: Size) -> Setup {
     let most_priority = random.pick(&[1, 3, 100, 65_535]);
     let most_period = random.pick(&[1, 5, 50, 5000, LONGEST_PERIOD]);
     let most_transactions = random.pick(&[2, 5, 255]);

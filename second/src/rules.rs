@@ -84,6 +84,21 @@ impl Setup {
         }
         self.tasks.iter().try_for_each(Task::check)
     }
+
+    /// The sum of demand 3, for a task and a wait length in ticks: over every other task,
+    /// transactions per job × (⌊length / period⌋ + 2). A bad task is refused (1).
+    pub fn sum(&self, task: usize, length: u32) -> Result<u64, Refusal> {
+        if task >= self.tasks.len() {
+            return Err(Refusal::TaskNotBelowN);
+        }
+        let others = self.tasks.iter().enumerate();
+        let others = others.filter(|(other, _)| *other != task);
+        Ok(others
+            .map(|(_, other)| {
+                u64::from(other.transactions) * (u64::from(length / other.period) + 2)
+            })
+            .sum())
+    }
 }
 
 /// The objects a transaction reads and those it writes. An object may stand in both.

@@ -30,6 +30,12 @@ impl<W: Write> Score<W> {
         }
     }
 
+    /// Books one run of the other program, and what was wrong with it.
+    pub fn book_run(&mut self, what: &str, fault: Option<String>) -> io::Result<()> {
+        let fault = fault.as_deref();
+        self.book(fault.is_none(), &format!("{what}\n{}", fault.unwrap_or("")))
+    }
+
     /// Books whether each class came up often enough.
     pub fn book_classes(&mut self, classes: &[Class]) -> io::Result<()> {
         for class in classes {

@@ -7,9 +7,11 @@ use std::io::{self, Write};
 use crate::both_numbers::BothNumbers;
 use crate::cases::CaseCounts;
 use crate::counts::{add, add_all, count, least, print_classes, Class, Counts, Never};
-use crate::report::{Onlooker, Report, Trouble};
+use crate::input::STANDARD_INPUT;
+use crate::report::{Onlooker, Report};
 use crate::rules::{Action, Event, Refusal, Setup};
 use crate::tally::{Booking, Commit, Tally, Wait, LAST_WAITS, MOST_TOTAL};
+use crate::trouble::Trouble;
 
 /// The numbers by which a log ends a report. 28 is for writers with a buffer of one size.
 const BAD: [u8; 13] = [10, 11, 12, 13, 20, 21, 22, 23, 24, 25, 26, 27, 40];
@@ -99,9 +101,10 @@ struct ListCounts {
 }
 
 /// How a list can end: with a sheet, with a bad log by its place, or in another way.
-const ENDINGS: [&str; 8] = [
+const ENDINGS: [&str; 9] = [
     "sheets over logs by name",
     "sheets over standard input",
+    "sheets over standard input by its name",
     "bad, the only log",
     "bad, the first of several",
     "bad, between others",
@@ -117,6 +120,9 @@ impl SheetCounts {
         self.list = ListCounts::default();
         let what = match ended {
             Ok(_) if names.is_empty() => "sheets over standard input",
+            Ok(_) if names.iter().any(|name| name == STANDARD_INPUT) => {
+                "sheets over standard input by its name"
+            }
             Ok(_) => "sheets over logs by name",
             Err(Trouble::Unreadable(..)) => "lists with a log that cannot be read",
             Err(Trouble::Bad(refusal, name)) => {

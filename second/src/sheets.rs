@@ -1,22 +1,23 @@
 //! Compares another report program with this one, list by list.
 
 use std::ffi::{OsStr, OsString};
-use std::fs;
-use std::io::{self, Write};
-use std::os::unix::ffi::OsStrExt;
-use std::process::Stdio;
+use std::fs::{self, File};
+use std::io::{self, Cursor, Read, Write};
 
 use crate::damage::{make, DAMAGES};
+use crate::expected::{Expected, Given};
 use crate::folder::Folder;
-use crate::other::{first_difference, said_by, Feeding};
+use crate::input::{open, STANDARD_INPUT};
+use crate::other::{first_difference, Feeding};
 use crate::random::{log_of_waits, Random, Size};
-use crate::report::{bad_line, sheet_of_files, sheet_of_input, Trouble};
+use crate::report::{sheet, Onlooker};
 use crate::rules::Refusal;
 use crate::score::Score;
 use crate::seasons::{season, GOOD, OTHER_SETUPS};
 use crate::sheet_counts::SheetCounts;
 use crate::sheet_vectors::{Part, LISTS, TROUBLES};
 use crate::text::log_of_text;
+use crate::trouble::Trouble;
 use crate::vectors::WHOLE_TEXT;
 
 /// How many lists of each good kind, of each damage, and with each difference of a setup.
@@ -41,7 +42,9 @@ pub fn sheets(program: &[OsString], report: &mut impl Write) -> io::Result<bool>
     comparison.cuts()?;
     comparison.standard_input()?;
     comparison.names()?;
+    comparison.input_by_name()?;
     comparison.unreadable()?;
+    comparison.wrong_calls()?;
     comparison.rounds()?;
     comparison.large_lists()?;
     comparison.sums()
@@ -74,11 +77,11 @@ impl<W: Write> Comparison<'_, W> {
     fn written_lists(&mut self) -> io::Result<()> {
         for list in LISTS {
             let logs: Vec<Vec<u8>> = list.texts.iter().map(|text| written(text)).collect();
-            let names = self.put(&logs)?;
+            let names = self.folder.put(&logs)?;
             self.hold(list.name, &names, list.sheet.as_bytes())?;
             self.list(list.name, &names)?;
         }
-        let name = self.put(&[&self.example])?.remove(0);
+        let name = self.folder.put(&[&self.example])?.remove(0);
         let names = [name.clone(), name];
         self.hold("one name twice", &names, LISTS[0].sheet.as_bytes())?;
         self.list("one name twice", &names)
@@ -88,7 +91,7 @@ impl<W: Write> Comparison<'_, W> {
     fn written_troubles(&mut self) -> io::Result<()> {
         for list in TROUBLES {
             let logs: Vec<Vec<u8>> = list.logs.iter().map(first_bytes).collect();
-            let names = self.put(&logs)?;
+            let names = self.folder.put(&logs)?;
             let mut line = format!("bad {} ", list.number).into_bytes();
             line.extend(names[list.place].as_encoded_bytes());
             line.push(b'\n');
@@ -112,7 +115,7 @@ impl<W: Write> Comparison<'_, W> {
         for ((kind, _), first_seed) in OTHER_SETUPS.iter().zip((50_000..).step_by(1001)) {
             for seed in (first_seed..).take(OTHER_SETUP_SEEDS) {
                 let names = self.season(seed, kind)?;
-                let ours = sheet_of_files(&names, &mut ());
+                let ours = sheet(&names, open, &mut ());
                 let differ = matches!(ours, Err(Trouble::Bad(Refusal::SetupsDiffer, _)));
                 self.score
                     .book(differ, &format!("season {seed} {kind}: not 40"))?;
@@ -123,7 +126,7 @@ impl<W: Write> Comparison<'_, W> {
 
     fn season(&mut self, seed: u64, kind: &str) -> io::Result<Vec<OsString>> {
         let logs = season(seed, kind).unwrap_or_default();
-        let names = self.put(&logs)?;
+        let names = self.folder.put(&logs)?;
         self.list(&format!("season {seed} {kind}"), &names)?;
         Ok(names)
     }
@@ -131,7 +134,9 @@ impl<W: Write> Comparison<'_, W> {
     /// 01's session twice, the second one cut at every seventh byte.
     fn cuts(&mut self) -> io::Result<()> {
         for length in (0..self.example.len()).step_by(7) {
-            let names = self.put(&[&self.example[..], &self.example[..length]])?;
+            let names = self
+                .folder
+                .put(&[&self.example[..], &self.example[..length]])?;
             self.list(&format!("a second log of {length} bytes"), &names)?;
         }
         Ok(())
@@ -176,11 +181,11 @@ impl<W: Write> Comparison<'_, W> {
         ];
         for name in names {
             let shown = String::from_utf8_lossy(name);
-            let given = self.name(name);
+            let given = self.folder.name(name);
             fs::write(&given, &self.example)?;
             self.list(&format!("the name {shown:?}"), std::slice::from_ref(&given))?;
             fs::write(&given, &self.example[1..])?;
-            let good = self.put(&[&self.example])?.remove(0);
+            let good = self.folder.put(&[&self.example])?.remove(0);
             self.list(
                 &format!("a bad log {shown:?}"),
                 &[good.clone(), given.clone()],
@@ -191,13 +196,39 @@ impl<W: Write> Comparison<'_, W> {
         Ok(())
     }
 
+    /// Standard input by its name, alone and among other names, at once or through a slow pipe.
+    /// Where it is named twice, nothing is left of it for the second one.
+    fn input_by_name(&mut self) -> io::Result<()> {
+        let example = self.example.clone();
+        let name = self.folder.put(&[&example])?.remove(0);
+        let by_name = STANDARD_INPUT.into();
+        let lists: [&[&OsString]; 6] = [
+            &[&by_name],
+            &[&by_name, &name],
+            &[&name, &by_name],
+            &[&name, &by_name, &name],
+            &[&by_name, &by_name],
+            &[&name, &by_name, &name, &by_name],
+        ];
+        for list in lists {
+            let names: Vec<OsString> = list.iter().map(|name| (*name).clone()).collect();
+            let what = format!("the names {names:?}");
+            self.compare(&what, &names, &example, Feeding::AtOnce)?;
+            self.compare(&what, &names, &example, Feeding::InPieces(5))?;
+            let bad = format!("{what}, with a bad log as input");
+            let feeding = Feeding::AtOnce;
+            self.compare(&bad, &names, &example[..example.len() - 1], feeding)?;
+        }
+        Ok(())
+    }
+
     /// Logs that cannot be opened or read, before and after good and bad ones.
     fn unreadable(&mut self) -> io::Result<()> {
-        let names = self.put(&[&self.example[..], &self.example[1..]])?;
+        let names = self.folder.put(&[&self.example[..], &self.example[1..]])?;
         let (good, bad) = (&names[0], &names[1]);
-        let (missing, folder) = (&self.name(b"missing"), &self.name(b"folder"));
+        let (missing, folder) = (&self.folder.name(b"missing"), &self.folder.name(b"folder"));
         fs::create_dir(folder)?;
-        let below_file = &self.name(b"log 1/below");
+        let below_file = &self.folder.name(b"log 1/below");
         for none in [missing, folder, below_file] {
             let lists: [&[&OsString]; 7] = [
                 &[none],
@@ -212,6 +243,32 @@ impl<W: Write> Comparison<'_, W> {
                 let names: Vec<OsString> = list.iter().map(|name| (*name).clone()).collect();
                 self.list(&format!("the names {names:?}"), &names)?;
             }
+        }
+        Ok(())
+    }
+
+    /// A folder as standard input, and flags that nobody knows.
+    fn wrong_calls(&mut self) -> io::Result<()> {
+        let expected = Expected::unreadable_input();
+        let folder = File::open(self.folder.path())?;
+        let fault = expected.fault_of_input(self.program, &[], folder)?;
+        self.score.book_run("a folder as standard input", fault)?;
+        let name = self.folder.put(&[&self.example])?.remove(0);
+        let calls: [&[&OsStr]; 3] = [
+            &[OsStr::new("--unknown")],
+            &[OsStr::new("-u"), &name],
+            &[&name, OsStr::new("-u")],
+        ];
+        for words in calls {
+            let words: Vec<OsString> = words.iter().map(|word| word.to_os_string()).collect();
+            let given = Given {
+                words: &words,
+                input: &self.example,
+                feeding: Feeding::AtOnce,
+            };
+            let fault = Expected::called_wrongly().fault(self.program, &given)?;
+            self.score
+                .book_run(&format!("called with {words:?}"), fault)?;
         }
         Ok(())
     }
@@ -232,9 +289,9 @@ impl<W: Write> Comparison<'_, W> {
             let (first, rest) = lengths.split_at(waits / 3);
             let (second, third) = rest.split_at(rest.len() / 5);
             let three = [log(first), log(second), log(third)];
-            let names = self.put(&[one])?;
+            let names = self.folder.put(&[one])?;
             self.list(&format!("{waits} waits in one log"), &names)?;
-            let names = self.put(&three)?;
+            let names = self.folder.put(&three)?;
             self.list(&format!("{waits} waits in three logs"), &names)?;
         }
         Ok(())
@@ -245,90 +302,55 @@ impl<W: Write> Comparison<'_, W> {
         for (processors, tasks) in [(2, 4), (16, 64)] {
             let size = Size::new(processors, tasks, 50_000);
             let log = make(3000, "busy", size).unwrap_or_default();
-            let names = self.put(&[&log, &log])?;
+            let names = self.folder.put(&[&log, &log])?;
             self.list(&format!("a large log twice, n {tasks}"), &names)?;
         }
         let log = make(4000, "full", Size::new(2, 4, 200)).unwrap_or_default();
-        let names = self.put(&[log])?;
+        let names = self.folder.put(&[log])?;
         self.list("a full session", &names)?;
-        let names = self.put(&[&self.example; 365])?;
+        let names = self.folder.put(&[&self.example; 365])?;
         self.list("365 logs", &names)
-    }
-
-    /// Puts logs into the folder, and gives their names.
-    fn put(&self, logs: &[impl AsRef<[u8]>]) -> io::Result<Vec<OsString>> {
-        let mut names = Vec::new();
-        for (place, log) in logs.iter().enumerate() {
-            let name = self.name(format!("log {}", place + 1).as_bytes());
-            fs::write(&name, log)?;
-            names.push(name);
-        }
-        Ok(names)
-    }
-
-    /// The name of a file in the folder, by its bytes.
-    fn name(&self, file: &[u8]) -> OsString {
-        let mut name = self.folder.path().as_os_str().to_os_string();
-        name.push("/");
-        name.push(OsStr::from_bytes(file));
-        name
     }
 
     /// Holds this program's own output for a list to one that was written down.
     fn hold(&mut self, what: &str, names: &[OsString], wanted: &[u8]) -> io::Result<()> {
-        let output = output(&sheet_of_files(names, &mut ()));
+        let output = Expected::of_answer(&sheet(names, open, &mut ())).output;
         let difference = first_difference(&output, wanted);
         let what = format!("{what}: not what is written down\n{difference}");
         self.score.book(output == wanted, &what)
     }
 
-    /// Compares the output of both programs for a list of names.
+    /// Compares both programs on a list of names. One that is given other names than that of
+    /// standard input has no use for what stands there.
     fn list(&mut self, what: &str, names: &[OsString]) -> io::Result<()> {
-        let ours = sheet_of_files(names, &mut self.counts);
-        // A program that is given names has no use for this input.
         let input = self.example.clone();
-        self.compare(what, names, &input, Feeding::AtOnce, &ours)
+        self.compare(what, names, &input, Feeding::AtOnce)
     }
 
-    /// Compares the output of both programs for one log as standard input.
+    /// Compares both programs on one log as standard input, without a name.
     fn input(&mut self, what: &str, log: &[u8], feeding: Feeding) -> io::Result<()> {
-        let ours = sheet_of_input(log, &mut self.counts);
         let what = format!("{what}{}", feeding.in_words());
-        self.compare(&what, &[], log, feeding, &ours)
+        self.compare(&what, &[], log, feeding)
     }
 
+    /// Compares what both programs print, and how they end.
     fn compare(
         &mut self,
         what: &str,
-        names: &[OsString],
+        words: &[OsString],
         input: &[u8],
         feeding: Feeding,
-        ours: &Result<String, Trouble>,
     ) -> io::Result<()> {
         self.lists += 1;
-        self.counts.book_list(names, ours);
-        let unreadable = match ours {
-            Err(Trouble::Unreadable(_, name)) => Some(name),
-            _ => None,
+        let ours = sheet_with_input(words, input, &mut self.counts);
+        self.counts.book_list(words, &ours);
+        let given = Given {
+            words,
+            input,
+            feeding,
         };
-        let errors = match unreadable {
-            Some(_) => Stdio::piped(),
-            None => Stdio::inherit(),
-        };
-        let Some(said) = said_by(self.program, names, input, feeding, errors)? else {
-            let what = format!("{what}: the other program was killed");
-            return self.score.book(false, &what);
-        };
-        let output = output(ours);
-        let difference = first_difference(&output, &said.output);
-        self.score
-            .book(said.output == output, &format!("{what}\n{difference}"))?;
-        if let Some(name) = unreadable {
-            let errors = String::from_utf8_lossy(&said.errors);
-            let what = format!("{what}: not named on standard error, which is {errors:?}");
-            self.score.book(names_file(&said.errors, name), &what)?;
-        }
-        Ok(())
+        let fault = Expected::of_answer(&ours).fault(self.program, &given)?;
+        self.score.book_run(what, fault)
     }
 
     /// Prints the counts, holds them to what must have come up, and prints the last line.
@@ -341,18 +363,24 @@ impl<W: Write> Comparison<'_, W> {
     }
 }
 
-/// What is on standard output: a sheet, the one line of a bad log, or nothing.
-fn output(result: &Result<String, Trouble>) -> Vec<u8> {
-    match result {
-        Ok(sheet) => sheet.clone().into_bytes(),
-        Err(Trouble::Bad(refusal, name)) => bad_line(*refusal, name),
-        Err(Trouble::Unreadable(..)) => Vec::new(),
-    }
-}
-
-/// Whether standard error says `NAME: ` somewhere.
-fn names_file(errors: &[u8], name: &OsString) -> bool {
-    let mut said = name.as_encoded_bytes().to_vec();
-    said.extend(b": ");
-    errors.windows(said.len()).any(|part| part == said)
+/// This program's own answer to a list, with this standard input, which the first one that reads
+/// it reads to its end.
+fn sheet_with_input(
+    names: &[OsString],
+    input: &[u8],
+    onlooker: &mut impl Onlooker,
+) -> Result<String, Trouble> {
+    let mut left = input.to_vec();
+    let open_with_input = |name: &OsStr| -> io::Result<Box<dyn Read>> {
+        match name == STANDARD_INPUT {
+            true => Ok(Box::new(Cursor::new(std::mem::take(&mut left)))),
+            false => open(name),
+        }
+    };
+    let standard_input = [STANDARD_INPUT.into()];
+    let names = match names {
+        [] => &standard_input,
+        _ => names,
+    };
+    sheet(names, open_with_input, onlooker)
 }

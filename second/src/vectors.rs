@@ -401,29 +401,168 @@ setup 7 9
 end 20 0
 ";
 
-/// Texts that have no log, with the line in which that shows.
-pub const BAD_TEXTS: [(usize, &str); 20] = [
-    (1, ""),
-    (2, "# only a comment\n"),
-    (1, "task 1 1 1\nend\n"),
-    (1, "setup\nend\n"),
-    (1, "setup 256\ntask 1 1 1\nend\n"),
-    (1, "setup 17\ntask 1 1 1\nend\n"),
-    (1, "setup +1\ntask 1 1 1\nend\n"),
-    (2, "setup 1\nend\n"),
-    (3, "setup 1\n\ntask 65536 1 1\nend\n"),
-    (2, "setup 1\ntask 0 1 1\nend\n"),
-    (2, "setup 1\ntask 1 86400001 1\nend\n"),
-    (2, "setup 1\ntask 1 1 256\nend\n"),
-    (3, "setup 1\ntask 1 1 1\nsetup 1\nend\n"),
-    (3, "setup 1\ntask 1 1 1\n4294967296 arrive 0\nend\n"),
-    (3, "setup 1\ntask 1 1 1\n0 arrive 256\nend\n"),
-    (3, "setup 1\ntask 1 1 1\n0 leave 0\nend\n"),
-    (3, "setup 1\ntask 1 1 1\n0 release 0 reads 1\nend\n"),
+/// The session of 01 with comments, blank lines and line ends of another system.
+pub const COMMENTED_TEXT: &str = "\
+# The session of 01.
+setup 2 # processors
+\ttask 10 100 2# priority, period, transactions
+task 30 50 1\r
+  # Nothing but a comment.
+task 20 80 1
+0 arrive 0 # first
+1 release 0 reads writes 4 # 7 is no object here
+2 arrive 1
+3 release 1 reads 4 writes 7
+
+4 arrive 2
+5 release 2 reads writes 7 #
+6 commit 0 # # setup 3
+7 commit 2
+8 finish 0
+8 commit 1
+9 finish 1
+10 finish 0
+11 finish 2
+12 arrive 1
+end # of the session
+# Nothing more.
+";
+
+/// Texts that have no log, with the line in which that shows, and some of the words that say it.
+pub const BAD_TEXTS: [(usize, &str, &str); 39] = [
+    (1, "no `setup` line", ""),
+    (2, "no `setup` line", "# only a comment\n"),
+    (1, "begins with `setup PROCESSORS`", "task 1 1 1\nend\n"),
+    (2, "begins with `setup PROCESSORS`", "# setup 1\nend\n"),
+    (1, "0 words behind it, not 1", "setup\nend\n"),
+    (1, "0 words behind it, not 1", "setup # 2\nend\n"),
+    (1, "2 words behind it, not 1", "setup 2 3\nend\n"),
+    (
+        1,
+        "the number of processors: a number from 1 to 16",
+        "setup 256\ntask 1 1 1\nend\n",
+    ),
+    (
+        1,
+        "the number of processors: a number from 1 to 16",
+        "setup 17\ntask 1 1 1\nend\n",
+    ),
+    (
+        1,
+        "the number of processors: a number from 1 to 16",
+        "setup +1\ntask 1 1 1\nend\n",
+    ),
+    (2, "no `task` line", "setup 1\nend\n"),
+    (2, "no `task` line", "setup 1\n0 arrive 0\nend\n"),
+    (2, "2 words behind it, not 3", "setup 1\ntask 1 1\nend\n"),
+    (
+        2,
+        "4 words behind it, not 3",
+        "setup 1\ntask 0 1 1 1\nend\n",
+    ),
     (
         3,
-        "setup 1\ntask 1 1 1\n0 release 0 reads writes 256\nend\n",
+        "the priority: a number from 1 to 65535",
+        "setup 1\n\ntask 65536 1 1\nend\n",
     ),
-    (4, "setup 1\ntask 1 1 1\n0 arrive 0\ntask 1 1 1\nend\n"),
-    (4, "setup 1\ntask 1 1 1\nend\nend\n"),
+    (
+        2,
+        "the priority: a number from 1 to 65535",
+        "setup 1\ntask 0 1 1\nend\n",
+    ),
+    (
+        2,
+        "the period: a number from 1 to 86400000",
+        "setup 1\ntask 1 86400001 1\nend\n",
+    ),
+    (
+        2,
+        "the number of transactions: a number from 0 to 255",
+        "setup 1\ntask 1 1 256\nend\n",
+    ),
+    (3, "a second `setup`", "setup 1\ntask 1 1 1\nsetup 1\nend\n"),
+    (
+        4,
+        "a second `setup`",
+        "setup 1\ntask 1 1 1\n0 arrive 0\nsetup 1\nend\n",
+    ),
+    (
+        3,
+        "the tick: a number from 0 to 4294967295",
+        "setup 1\ntask 1 1 1\n4294967296 arrive 0\n",
+    ),
+    (
+        3,
+        "the task: a number from 0 to 255",
+        "setup 1\ntask 1 1 1\n0 arrive 256\nend\n",
+    ),
+    (
+        3,
+        "unknown event `leave`",
+        "setup 1\ntask 1 1 1\n0 leave 0\nend\n",
+    ),
+    (
+        3,
+        "the tick is missing: `TICK arrive TASK`",
+        "setup 1\ntask 1 1 1\narrive 0\nend\n",
+    ),
+    (
+        3,
+        "the task is missing: `TICK commit TASK`",
+        "setup 1\ntask 1 1 1\n0 commit\nend\n",
+    ),
+    (
+        3,
+        "nothing stands behind the task",
+        "setup 1\ntask 1 1 1\n0 arrive 0 ok\nend\n",
+    ),
+    (3, "`7` begins no line", "setup 1\ntask 1 1 1\n7\nend\n"),
+    (
+        3,
+        "`Task` begins no line",
+        "setup 1\ntask 1 1 1\nTask 1 1 1\nend\n",
+    ),
+    (
+        3,
+        "`-1` cannot be the tick",
+        "setup 1\ntask 1 1 1\n-1 arrive 0\nend\n",
+    ),
+    (
+        3,
+        "`reads` cannot be the task",
+        "setup 1\ntask 1 1 1\n0 release reads writes\nend\n",
+    ),
+    (1, "not with `\\u{1a}\\0\\u{1}\\0`", "\x1a\0\x01\0"),
+    (
+        3,
+        "`reads` is missing",
+        "setup 1\ntask 1 1 1\n0 release 0\nend\n",
+    ),
+    (
+        3,
+        "`reads` is missing",
+        "setup 1\ntask 1 1 1\n0 release 0 writes 4\nend\n",
+    ),
+    (
+        3,
+        "`writes` is missing",
+        "setup 1\ntask 1 1 1\n0 release 0 reads 1\nend\n",
+    ),
+    (
+        3,
+        "an object: a number from 0 to 255",
+        "setup 1\ntask 1 1 1\n0 release 0 reads writes 256\n",
+    ),
+    (
+        4,
+        "a `task` line after an event",
+        "setup 1\ntask 1 1 1\n0 arrive 0\ntask 1 1 1\nend\n",
+    ),
+    (4, "a line after `end`", "setup 1\ntask 1 1 1\nend\nend\n"),
+    (
+        3,
+        "nothing stands behind `end`",
+        "setup 1\ntask 1 1 1\nend 0\n",
+    ),
+    (4, "no `end` line", "setup 1\ntask 1 1 1\n0 arrive 0\n"),
 ];

@@ -1,2 +1,3 @@
--- The laws of a part that is moved to the front.
+-- Laws of reads, and of bytes that are moved to the front.
 pub mod Moving
+pub mod Reading

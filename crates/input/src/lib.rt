@@ -1,8 +1,9 @@
 // Bytes from a descriptor, in a window: read behind those that it holds, and what is left of them moved to its front.
 ghost use mathlib.Core.Path.{_≡_};
 ghost use mathlib.Core.List.{_++_};
-ghost use Prim.Native.Nat.{_≤_};
+ghost use Prim.Native.Nat.{_≤_, _<_};
 ghost use lib.ListN.{length, drop};
+ghost use Rattle.input.specs.Block.{Kept, Behind, Read};
 ghost use Rattle.input.specs.Part.{part};
 
 // What one read gives: where the bytes in the window end, whether it failed, and whether the input has ended.
@@ -12,24 +13,70 @@ pub struct Block {
     pub last: bool,
 }
 
-// Reads once, behind the bytes that the window holds. Which bytes come is the system's to say. A window that would hold more bytes than it has room for is not read, which is a failure.
-pub fn read_block(fd: i32, window: &mut [u8], filled: usize) -> Block
-    ensures { λ b. ⌜ b .end ≤ length (now (window .entry)) ⌝ }
+// Reads once behind the bytes that wait.
+fn read_once(fd: i32, window: &mut [u8], filled: usize) -> isize
+    requires { ⌜ filled < length (now window) ⌝ }
+    ensures { λ got. ⌜ Kept (now (window .entry)) filled (now (window .exit)) ⌝ }
 {
-    if window.len() < filled {
+    libc::read(fd, &mut window[filled..])
+}
+
+// Reads behind the bytes that wait, as often as it is worth another try.
+fn read_tries(fd: i32, window: &mut [u8], filled: usize) -> isize
+    requires { ⌜ filled < length (now window) ⌝ }
+    ensures { λ got. ⌜ Kept (now (window .entry)) filled (now (window .exit)) ⌝ }
+{
+    let mut turns = u64::MAX;
+    let mut got: isize = -1;
+    while turns > 0 {
+        turns -= 1;
+        got = read_once(fd, window, filled);
+        if got >= 0 {
+            break;
+        }
+        if !outside::again(os::errno()) {
+            break;
+        }
+    }
+    got
+}
+
+// Reads behind the bytes that wait. Where the input has ended, or the read failed, nothing came.
+fn read_behind(fd: i32, window: &mut [u8], filled: usize) -> Block
+    requires { ⌜ filled < length (now window) ⌝ }
+    ensures { λ b. ⌜ Behind (now (window .entry)) filled (now (window .exit)) b ⌝ }
+{
+    let got = read_tries(fd, window, filled);
+    let more = io::count(got, &window[filled..]);
+    if more == 0 {
+        let failed = got < 0;
+        return Block {
+            end: filled,
+            failed: failed,
+            last: !failed,
+        };
+    }
+    Block {
+        end: filled + more,
+        failed: false,
+        last: false,
+    }
+}
+
+// Reads behind the bytes that the window holds, at least one byte unless the input has ended or the read failed. Which bytes come is the system's to say. A window with no
+// room, or that would hold more bytes than it has, is not read, which is a failure.
+pub fn read_block(fd: i32, window: &mut [u8], filled: usize) -> Block
+    ensures within { λ b. ⌜ b .end ≤ length (now (window .entry)) ⌝ }
+    ensures reads { λ b. ⌜ Read (now (window .entry)) filled (now (window .exit)) b ⌝ }
+{
+    if window.len() <= filled {
         return Block {
             end: window.len(),
             failed: true,
             last: false,
         };
     }
-    let got = libc::read(fd, &mut window[filled..]);
-    let more = io::count(got, &window[filled..]);
-    Block {
-        end: filled + more,
-        failed: got < 0,
-        last: got == 0,
-    }
+    read_behind(fd, window, filled)
 }
 
 // How many bytes stand from a place up to an end.

@@ -6,6 +6,7 @@ use native.Mathlib.Numerals.{add-one}
 use native.Mathlib.Omega.{arith}
 use lib.ListN.{length, take, drop, length-append, length-take}
 use lib.Seq.{take-at, drop-drop, drop-append-add}
+use Rattle.rules.specs.declared.Session.{Session}
 use Rattle.report.specs.declared.Figures.{Figures}
 use Rattle.report.specs.Items.{figuresAt}
 use Rattle.text.specs.declared.Put.{Put}
@@ -15,6 +16,7 @@ use Rattle.text.specs.Lines.{partsAfter}
 use Rattle.text.specs.Written.{putNext, wrote, over, bufferAfter, Follows}
 use Rattle.text.proofs.Writing.{accepted, length-over, follows-word}
 use Rattle.sheet.specs.Text.{decimals, spacedText, rowText, rowsText, badFront, badText}
+use Rattle.sheet.specs.Sums.{sumText, sumRows}
 
 pub put-follows : (l : List ℕ) (at : ℕ) (word after : List ℕ) (put : Put) (next : ℕ) → at + length word ≤ length l
     → put ≡ wrote l at word → after ≡ bufferAfter l at word → next ≡ putNext put → Follows l at word after next
@@ -42,6 +44,10 @@ spaced-more (x ∷ more) n = ap (λ (s : List ℕ). 32 ∷ s) (ap (λ (s : List 
 pub rows-more : (n : ℕ) (all : List Figures) → rowsText (n + 1) all ≡ rowsText n all ++ rowText n (figuresAt all n)
 unfolding rowsText
 rows-more n all = rw add-one
+
+pub sum-rows-more : (s : Session) (ticks n : ℕ) → sumRows s ticks (n + 1) ≡ sumRows s ticks n ++ sumText s ticks n
+unfolding sumRows
+sum-rows-more s ticks n = rw add-one
 
 -- ---- one word after another, each in its place
 

@@ -26,7 +26,7 @@ fn next_of(put: Put) -> usize
 }
 
 // A word.
-fn word(line: &mut [u8], at: usize, bytes: &[u8]) -> usize
+pub(crate) fn word(line: &mut [u8], at: usize, bytes: &[u8]) -> usize
     requires { ⌜ at + length (now bytes) ≤ length (now line) ⌝ }
     ensures { λ next. ⌜ Follows (now (line .entry)) at (now (bytes .entry)) (now (line .exit)) next ⌝ }
 {
@@ -34,7 +34,7 @@ fn word(line: &mut [u8], at: usize, bytes: &[u8]) -> usize
 }
 
 // A number, in decimal.
-fn number(line: &mut [u8], at: usize, n: u64) -> usize
+pub(crate) fn number(line: &mut [u8], at: usize, n: u64) -> usize
     requires { ⌜ at + 20 ≤ length (now line) ⌝ }
     ensures { λ next. ⌜ Follows (now (line .entry)) at (decimal n) (now (line .exit)) next ⌝ }
 {
@@ -52,7 +52,7 @@ fn spaced(line: &mut [u8], at: usize, n: u32) -> usize
 }
 
 // A word and a number, to the end of the line.
-fn named(line: &mut [u8], at: usize, name: &[u8], n: u64) -> usize
+pub(crate) fn named(line: &mut [u8], at: usize, name: &[u8], n: u64) -> usize
     requires { ⌜ at + length (now name) + 21 ≤ length (now line) ⌝ }
     ensures is { λ next. ⌜ Follows (now (line .entry)) at (now (name .entry) ++ (decimal n ++ (10 ∷ []))) (now (line .exit)) next ⌝ }
     ensures reaches { λ next. ⌜ next ≤ at + length (now (name .entry)) + 21 ⌝ }
@@ -169,7 +169,7 @@ fn foot(
 }
 
 // How many tasks have a row.
-fn rows_of(n: u8) -> usize
+pub(crate) fn rows_of(n: u8) -> usize
     ensures { λ k. ⌜ k ≡ min n 64 ⌝ }
 {
     if n < 64 { n as usize } else { 64 }

@@ -1,0 +1,19 @@
+-- Calls of the system: which are worth another try, and what is written out.
+use Prim.Native.Nat.{ℕ, _≤_}
+use mathlib.Core.Path.{_≡_}
+use mathlib.Core.List.{List}
+use mathlib.Core.Bool.{Bool, true, false, _||_}
+use lib.Dec.{eqb}
+use lib.IntN.{ℤ, pos, negsuc}
+use lib.ListN.{length}
+use Rattle.outside.specs.declared.Sent.{Sent}
+
+-- a call that was interrupted (4), or that would have had to wait (11), is tried again
+abbrev pub passing : ℤ → Bool
+passing (pos error) = eqb error 4 || eqb error 11
+passing (negsuc error) = false
+
+-- what was written of some bytes is no more than they are, and is said to be all exactly where it is; which bytes the system took is the system's to say
+pub record Written (bytes : List ℕ) (sent : Sent) : Type 0 where
+  pub within : sent .taken ≤ length bytes
+  pub whole : sent .whole ≡ eqb (sent .taken) (length bytes)

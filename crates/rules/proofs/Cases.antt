@@ -1,11 +1,11 @@
 -- The worked cases hold by computing both sides.
 use mathlib.Core.Path.{refl}
 use Rattle.rules.specs.Ranking.{byPriority}
-use Rattle.rules.specs.Setup.{fresh}
+use Rattle.rules.specs.Setup.{setupNumber, fresh}
 use Rattle.rules.specs.Events.{after}
 use Rattle.rules.specs.Sum.{bound}
 use Rattle.rules.specs.Lines.{eventLines}
-use Rattle.rules.specs.Cases.{WholeSession, WholeSum, DeferredReleaseScans, FinishScans, OneOfTwoAdmitted, CommittedEmpty, OnlyClashingCommits, RanAndDidNot, HighestOfSeveral, UsedUp, OnePeriodLater}
+use Rattle.rules.specs.Cases.{WholeSession, WholeSum, DeferredReleaseScans, FinishScans, OneOfTwoAdmitted, CommittedEmpty, OnlyClashingCommits, RanAndDidNot, HighestOfSeveral, UsedUp, OnePeriodLater, SixBeforeSeven, FirstNumberAnswered, LowestTaskFirst, OneProcessor, LastObjectContested, TwoAdmitted}
 
 pub whole-session : WholeSession
 unfolding byPriority fresh eventLines
@@ -50,3 +50,27 @@ used-up = refl
 pub one-period-later : OnePeriodLater
 unfolding byPriority fresh eventLines
 one-period-later = refl
+
+pub six-before-seven : SixBeforeSeven
+unfolding byPriority fresh eventLines
+six-before-seven = refl
+
+pub first-number-answered : FirstNumberAnswered
+unfolding byPriority fresh eventLines
+first-number-answered = refl
+
+pub one-processor : OneProcessor
+unfolding byPriority fresh eventLines
+one-processor = refl
+
+pub last-object-contested : LastObjectContested
+unfolding byPriority fresh eventLines
+last-object-contested = refl
+
+pub two-admitted : TwoAdmitted
+unfolding byPriority fresh eventLines
+two-admitted = refl
+
+pub lowest-task-first : LowestTaskFirst
+unfolding setupNumber
+lowest-task-first = (refl, refl, refl, refl, refl)

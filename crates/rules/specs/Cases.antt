@@ -1,17 +1,18 @@
--- Document 01's worked cases, one of request 2 and one of request 3, as claims about the lines.
+-- Document 01's worked cases, one of request 2 and one of request 3, as claims about the lines; then cases at the edge of a rule.
 use Prim.Native.Nat.{ℕ, _^_}
 use mathlib.Core.Path.{_≡_}
 use mathlib.Core.List.{List, [], _∷_, _++_}
 use lib.ListN.{take, replicate}
 use Rattle.rules.specs.declared.Terms.{Terms}
 use Rattle.rules.specs.declared.Setup.{Setup}
+use Rattle.rules.specs.declared.Session.{Session}
 use Rattle.rules.specs.declared.Kind.{Kind}
 use Rattle.rules.specs.declared.Kind.the-variants.{Arrive, Release, Commit, Finish}
 use Rattle.rules.specs.declared.Event.{Event}
 use Rattle.rules.specs.declared.Said.the-variants.{Ok, Run, Wait, No}
 use Rattle.rules.specs.Ranking.{byPriority}
 use Rattle.rules.specs.Tasks.{noTerms}
-use Rattle.rules.specs.Setup.{fresh}
+use Rattle.rules.specs.Setup.{setupNumber, fresh}
 use Rattle.rules.specs.Events.{empty, after}
 use Rattle.rules.specs.Sum.{bound}
 use Rattle.rules.specs.Lines.{Line, event, admit, end, eventLines}
@@ -177,3 +178,83 @@ OnePeriodLater =
     eventLines byPriority (fresh (rising 2 fourTasks)) 0
     (plainEvent Arrive 5 0 ∷ plainEvent Finish 6 0 ∷ plainEvent Arrive 104 0 ∷ plainEvent Arrive 105 0 ∷ [])
     ≡ event 5 Arrive 0 Ok ∷ event 6 Finish 0 Ok ∷ event 104 Arrive 0 (No 5) ∷ event 105 Arrive 0 Ok ∷ end 3 1 ∷ []
+
+-- 'release or finish by a plain task not on a processor' before 'release when the job has used its transactions'. m = 2, and 0 has used its one. While 1 and 2 are plain
+-- above it, 0 + 2 is not less than 2, so both numbers refuse its release, and 6 is answered. Once 2 has finished it has room, and 7 is left.
+abbrev pub SixBeforeSeven : Type 0
+SixBeforeSeven =
+    eventLines byPriority (fresh (rising 2 fourTasks)) 0
+    (plainEvent Arrive 0 0 ∷ writes 1 0 1 ∷ plainEvent Commit 2 0 ∷ plainEvent Arrive 3 1 ∷ plainEvent Arrive 4 2 ∷ writes 5 0 1 ∷ plainEvent Finish 6 2
+    ∷ writes 7 0 1 ∷ [])
+    ≡ event 0 Arrive 0 Ok ∷ event 1 Release 0 Run ∷ event 2 Commit 0 Ok ∷ event 3 Arrive 1 Ok ∷ event 4 Arrive 2 Ok ∷ event 5 Release 0 (No 6)
+    ∷ event 6 Finish 2 Ok ∷ event 7 Release 0 (No 7) ∷ end 6 2 ∷ []
+
+-- a session in which nothing has happened but that so many events were accepted, the last at this tick
+abbrev pub later : Session → ℕ → ℕ → Session
+later s tick accepted =
+    record { m = s .m; n = s .n; tick = tick; accepted = accepted; tasks = s .tasks; reads = s .reads; writes = s .writes }
+
+-- 'Events try 1 to 7 in that order.' After 999,999 events, the last at tick 5, one more is accepted: the arrival of 0. Then a commit of task 4 at tick 4 meets 1, 2 and 3, as
+-- there are four tasks: 1. An arrival of 1 at tick 4 meets 2 and 3: 2. A commit of 0, which is plain, at tick 5 meets 3 and 4: 3. An arrival of 1 at tick 5 meets 3 alone.
+abbrev pub FirstNumberAnswered : Type 0
+FirstNumberAnswered =
+    eventLines byPriority (later (fresh (rising 2 fourTasks)) 5 999999) 0
+    (plainEvent Arrive 5 0 ∷ plainEvent Commit 4 4 ∷ plainEvent Arrive 4 1 ∷ plainEvent Commit 5 0 ∷ plainEvent Arrive 5 1 ∷ [])
+    ≡ event 5 Arrive 0 Ok ∷ event 4 Commit 4 (No 1) ∷ event 4 Arrive 1 (No 2) ∷ event 5 Commit 0 (No 3) ∷ event 5 Arrive 1 (No 3) ∷ end 1000000 4 ∷ []
+
+-- '12, 13: setup: priority 0, then period not allowed; lowest task first'. Tasks 1 and 2 of three are bad: 13 in 1 and 12 in 2 gives 13; 12 in 1 and 13 in 2 gives 12; both in
+-- 1 and 13 in 2 gives 12. 'setup tries 10, 11' before them, and 10 first.
+abbrev pub threeTasks : ℕ → ℕ → Terms → Terms → Setup
+threeTasks m n one two = setupOf m n 61 (terms 10 100 1 ∷ one ∷ two ∷ [])
+
+abbrev pub LowestTaskFirst : Type 0
+LowestTaskFirst =
+    (setupNumber (threeTasks 2 3 (terms 10 86400001 1) (terms 0 100 1)) ≡ 13)
+    × (setupNumber (threeTasks 2 3 (terms 0 100 1) (terms 10 0 1)) ≡ 12)
+    × (setupNumber (threeTasks 2 3 (terms 0 0 1) (terms 10 0 1)) ≡ 12)
+    × (setupNumber (threeTasks 2 65 (terms 0 100 1) (terms 10 0 1)) ≡ 11)
+    × (setupNumber (threeTasks 17 0 (terms 0 100 1) (terms 10 0 1)) ≡ 10)
+
+-- ---- one processor, the last object, two admissions
+
+-- m = 1. While 0 executes nobody else has room, so the release of 1 gets 6; and 0 has none either, 1 + 0, but a commit asks for none. Then 1 is plain above 0: 1 has room and 0
+-- has not. So nobody ever waits.
+abbrev pub OneProcessor : Type 0
+OneProcessor =
+    eventLines byPriority (fresh (rising 1 fourTasks)) 0
+    (plainEvent Arrive 0 0 ∷ writes 1 0 1 ∷ plainEvent Arrive 2 1 ∷ writes 3 1 1 ∷ plainEvent Commit 4 0 ∷ plainEvent Finish 5 0 ∷ writes 6 1 1
+    ∷ plainEvent Commit 7 1 ∷ plainEvent Finish 8 1 ∷ plainEvent Finish 9 0 ∷ [])
+    ≡ event 0 Arrive 0 Ok ∷ event 1 Release 0 Run ∷ event 2 Arrive 1 Ok ∷ event 3 Release 1 (No 6) ∷ event 4 Commit 0 Ok ∷ event 5 Finish 0 (No 6)
+    ∷ event 6 Release 1 Run ∷ event 7 Commit 1 Ok ∷ event 8 Finish 1 Ok ∷ event 9 Finish 0 Ok ∷ end 8 2 ∷ []
+
+-- the set of object 255, bit 63 of word 3, and of objects 64 and 255: 64 is bit 0 of word 1
+abbrev pub lastObject : List ℕ
+lastObject = 0 ∷ 0 ∷ 0 ∷ 2 ^ 63 ∷ []
+
+abbrev pub lastAndFirst : List ℕ
+lastAndFirst = 0 ∷ 1 ∷ 0 ∷ 2 ^ 63 ∷ []
+
+-- m = 3. 0 executes writing 255; 1 reads 255 and waits for it. 2 executes writing 64. 3 releases writing 64 and 255, which 2 and 0 have: the lowest contested
+-- object is 64, there are 2, and 2 is the highest ranked that it clashes with.
+abbrev pub LastObjectContested : Type 0
+LastObjectContested =
+    eventLines byPriority (fresh (rising 3 fourTasks)) 0
+    (plainEvent Arrive 0 0 ∷ releaseOf 1 0 empty lastObject ∷ plainEvent Arrive 2 1 ∷ releaseOf 3 1 lastObject empty ∷ plainEvent Arrive 4 2
+    ∷ releaseOf 5 2 empty (0 ∷ 1 ∷ 0 ∷ 0 ∷ []) ∷ plainEvent Arrive 6 3 ∷ releaseOf 7 3 empty lastAndFirst ∷ [])
+    ≡ event 0 Arrive 0 Ok ∷ event 1 Release 0 Run ∷ event 2 Arrive 1 Ok ∷ event 3 Release 1 (Wait 255 1 0) ∷ event 4 Arrive 2 Ok ∷ event 5 Release 2 Run
+    ∷ event 6 Arrive 3 Ok ∷ event 7 Release 3 (Wait 64 2 2) ∷ end 8 0 ∷ []
+
+-- the set of objects 1 and 2: 2 + 4
+abbrev pub oneAndTwo : List ℕ
+oneAndTwo = 6 ∷ 0 ∷ 0 ∷ 0 ∷ []
+
+-- 'The answer lists the admitted tasks in that order', which is highest rank first. m = 2. 0 executes writing 1 and 2; 1 waits to write 1, and 2 to write 2. Just before 0
+-- commits, one executes and nobody is plain: for 2, 1 + 0 + 0 is less than 2, so it ran; for 1, 1 + 0 + 1 is not. Both clash with 0 alone, and not with each other. The scan
+-- admits 2, which ranks higher, and then 1: one executes and 0 is plain below it.
+abbrev pub TwoAdmitted : Type 0
+TwoAdmitted =
+    eventLines byPriority (fresh (rising 2 fourTasks)) 0
+    (plainEvent Arrive 0 0 ∷ releaseOf 1 0 empty oneAndTwo ∷ plainEvent Arrive 2 1 ∷ writes 3 1 1 ∷ plainEvent Arrive 4 2 ∷ writes 5 2 2
+    ∷ plainEvent Commit 6 0 ∷ [])
+    ≡ event 0 Arrive 0 Ok ∷ event 1 Release 0 Run ∷ event 2 Arrive 1 Ok ∷ event 3 Release 1 (Wait 1 1 0) ∷ event 4 Arrive 2 Ok
+    ∷ event 5 Release 2 (Wait 2 1 0) ∷ event 6 Commit 0 Ok ∷ admit 6 2 1 1 ∷ admit 6 1 1 0 ∷ end 7 0 ∷ []

@@ -6,6 +6,7 @@ pub mod Setup
 pub mod Room
 pub mod Contest
 pub mod Scan
+pub mod Listed
 pub mod Events
 pub mod Sum
 pub mod Lines

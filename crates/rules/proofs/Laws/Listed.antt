@@ -20,7 +20,7 @@ use Rattle.rules.specs.declared.Admission.{Admission}
 use Rattle.rules.specs.declared.Admissions.{Admissions}
 use Rattle.rules.specs.Ranking.{Ranking}
 use Rattle.rules.specs.Tasks.{isWaiting, taskAt, stateAt, waiting, inState}
-use Rattle.rules.specs.Scan.{Scanned, noAdmission, none, admission, listed, admit, scan}
+use Rattle.rules.specs.Scan.{admissible, Scanned, noAdmission, none, admission, listed, admit, scan}
 use Rattle.rules.specs.Lines.{admissions}
 use Rattle.rules.specs.History.{tasksOf, names}
 use Rattle.rules.proofs.Laws.Kept.{Kept}
@@ -83,12 +83,31 @@ none-settled s = record { kept = kept-refl s; each = λ i. inl (refl, refl); ent
 
 -- ---- the scan
 
-record Listing (s : Session) (x : Scanned) : Type 0 where
-  counted : Counted s x
-  size : length (x .admitted .list) ≡ 16
-  settled : Settled s (x .admitted) (x .session)
+pub record Listing (s : Session) (x : Scanned) : Type 0 where
+  pub counted : Counted s x
+  pub size : length (x .admitted .list) ≡ 16
+  pub settled : Settled s (x .admitted) (x .session)
 
-admit-listing : (rank : Ranking) (s : Session) → s .m ≤ 16 → Lasts rank (Listing s)
+pub none-listing : (s : Session) → Listing s (record { admitted = none; session = s })
+none-listing s = record {
+  counted = record { kept = kept-refl s; counts = omega arith; bounded = inl refl };
+  size = length-replicate 16 noAdmission;
+  settled = none-settled s;
+}
+
+-- where there is room for one more to execute, there is a place for it in the list
+pub listing-fits : (rank : Ranking) (s : Session) → s .m ≤ 16 → (x : Scanned) (i : ℕ) → Listing s x → admissible rank (x .session) i ≡ true
+    → x .admitted .count < length (x .admitted .list)
+listing-fits rank s few x i p a =
+    omega (
+      arith,
+      p .size,
+      rw (p .counted .kept .n) at (room-fewer rank (x .session) i (admissible-room rank (x .session) i a)),
+      p .counted .counts,
+      p .counted .kept .m,
+    )
+
+pub admit-listing : (rank : Ranking) (s : Session) → s .m ≤ 16 → Lasts rank (Listing s)
 admit-listing rank s few x i p l w a = record {
   counted = counted-now;
   size = length-set (x .admitted .list) (x .admitted .count) new ∙ p .size;
@@ -105,14 +124,7 @@ admit-listing rank s few x i p l w a = record {
     new = admission i (stateAt now i)
 
     fits : x .admitted .count < length (x .admitted .list)
-    fits =
-        omega (
-          arith,
-          p .size,
-          rw (p .counted .kept .n) at (room-fewer rank now i (admissible-room rank now i a)),
-          p .counted .counts,
-          p .counted .kept .m,
-        )
+    fits = listing-fits rank s few x i p a
 
     -- one that still waits is as it was
     was : taskAt now i ≡ taskAt s i
@@ -151,11 +163,4 @@ admit-listing rank s few x i p l w a = record {
             rw (getD-set-other (x .admitted .list) (x .admitted .count) k new noAdmission (ne-of-lt m)) (p .settled .entries k m)
 
 pub scan-settled : (rank : Ranking) (s : Session) → s .m ≤ 16 → Settled s (scan rank s .admitted) (scan rank s .session)
-scan-settled rank s few =
-    scan-lasts rank (Listing s) (admit-listing rank s few) s
-    (record {
-      counted = record { kept = kept-refl s; counts = omega arith; bounded = inl refl };
-      size = length-replicate 16 noAdmission;
-      settled = none-settled s;
-    })
-    .settled
+scan-settled rank s few = scan-lasts rank (Listing s) (admit-listing rank s few) s (none-listing s) .settled

@@ -33,7 +33,7 @@ use Rattle.rules.specs.Scan.{noAdmission, admission}
 use Rattle.rules.specs.Sum.{share, bound, summed}
 use Rattle.rules.specs.Reachable.{Sound}
 use Rattle.rules.specs.History.{Call, heard, commits, waitLength, during, passes, passed, reruns, retried}
-use Rattle.rules.specs.Demand3.{Run, begun, called, SameSets, FreshStarts, RunSound, ClashesFit, commitsIn, OnceRunning, HeldBack, Counted, WaitsCounted, AdmittedCounted, Bounded, RunningApart, AsTold}
+use Rattle.rules.specs.Demand3.{Run, begun, called, SameSets, FreshStarts, RunSound, ClashesFit, commitsIn, OnceRunning, HeldBack, Counted, WaitsCounted, AdmittedCounted, Bounded, AdmittedWithin, RunningApart, AsTold}
 use Rattle.rules.proofs.Laws.Numbers.{must, must-not, allowed-is, allowed-bounds}
 use Rattle.rules.proofs.Laws.Keeping.{kept-sets}
 use Rattle.rules.proofs.Laws.Listed.{Settled, Each}
@@ -156,7 +156,7 @@ waits-counted rank strict stays start s calls begins run i w l q =
     let p = run-known rank strict stays start s calls begins run .follows i l in
     counted rank start calls i (w .clashes) (w .retries) (p .clashes w q) (p .retries w q)
 
-waiting-is : (state : State) → isWaiting state ≡ true → (w : Wait) × (state ≡ Waiting w)
+pub waiting-is : (state : State) → isWaiting state ≡ true → (w : Wait) × (state ≡ Waiting w)
 waiting-is Absent e = absurd (false≢true e)
 waiting-is Plain e = absurd (false≢true e)
 waiting-is (Waiting w) e = (w, refl)
@@ -223,6 +223,20 @@ bounded rank strict stays start s calls begins run i l = go (sound-known rank s 
 
     go : known s i ≡ true → (summed s i length .number ≡ 0) × (passed i calls ≤ summed s i length .sum)
     go k = rw k (refl, at-most)
+
+-- one that is admitted is a task of the session
+admitted-below : (rank : Ranking) (s : Session) (e : Event) (k : ℕ) (a : Answer) → Taken rank s e a → k < a .admitted .count
+    → getD (a .admitted .list) k noAdmission .task < a .session .n
+admitted-below rank s e k a (refuses k′ given) l = absurd (omega arith)
+admitted-below rank s e k a (accepts _ s₁ moved settled) l = lt-of-lt-of-le (settled .entries k l .0) (le-of-eq (sym (settled .kept .n)))
+
+pub admitted-within : AdmittedWithin
+admitted-within rank strict stays start s calls begins run e k l =
+    let a = step rank s e in
+    let sound = run-sound rank strict stays start s calls begins run in
+    let below = admitted-below rank s e k a (taken rank strict stays s e sound) l in
+    let within = bounded rank strict stays start (a .session) (heard e a ∷ calls) begins (called run e) (getD (a .admitted .list) k noAdmission .task) below in
+    (within .0, omega (arith, within .1, admitted-counted rank strict stays start s calls begins run e k l .passes))
 
 -- ---- those that run, and what is told
 

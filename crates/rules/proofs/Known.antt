@@ -84,7 +84,7 @@ module _ (c : Call) (calls : List Call) (i : ℕ) where
   unfolding lasted
   lasted-live q a w = ap (λ (b : Bool). goes-on b (accepted c) (inWait i calls)) q ∙ ap₂ (λ (x y : Bool). goes-on false x y) a w
 
-  lasted-over : deferred c i ≡ false → accepted c ≡ true → inWait i calls ≡ false → lasted i (c ∷ calls) ≡ lasted i calls
+  pub lasted-over : deferred c i ≡ false → accepted c ≡ true → inWait i calls ≡ false → lasted i (c ∷ calls) ≡ lasted i calls
   unfolding lasted
   lasted-over q a w = ap (λ (b : Bool). goes-on b (accepted c) (inWait i calls)) q ∙ ap₂ (λ (x y : Bool). goes-on false x y) a w
 
@@ -123,7 +123,7 @@ module _ (s : Session) (e : Event) (k : ℕ) (no : k ≢ 0) (calls : List Call) 
   unfolding stage names tasksOf
   stage-quiet i = rw unheard refl
 
-  lasted-quiet : (i : ℕ) → lasted i (refusal ∷ calls) ≡ lasted i calls
+  pub lasted-quiet : (i : ℕ) → lasted i (refusal ∷ calls) ≡ lasted i calls
   unfolding lasted
   lasted-quiet i = rw unheard refl
 

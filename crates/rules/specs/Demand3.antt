@@ -26,7 +26,7 @@ use Rattle.rules.specs.Scan.{noAdmission}
 use Rattle.rules.specs.Events.{step}
 use Rattle.rules.specs.Sum.{summed}
 use Rattle.rules.specs.Reachable.{Sound}
-use Rattle.rules.specs.History.{Call, heard, commits, Stage, absent, plain, waits, executes, stage, transaction, released, began, lasted, waitLength, passed, lastArrival, retried}
+use Rattle.rules.specs.History.{Call, heard, commits, Stage, absent, plain, waits, executes, stage, transaction, released, began, lasted, admittedAt, waitLength, passed, lastArrival, retried}
 
 -- ---- a run
 
@@ -121,6 +121,17 @@ Within s calls =
 abbrev pub Bounded : Type 0
 Bounded = InEveryRun (λ rank start s calls. Within s calls)
 
+-- and so is the clash count of each admission: at most the sum for its wait, which the call that admits it ends
+abbrev pub AdmissionsWithin : Event → Answer → List Call → Type 0
+AdmissionsWithin e answer calls =
+    (k : ℕ) → k < answer .admitted .count
+    → let a = getD (answer .admitted .list) k noAdmission in
+    let sum = summed (answer .session) (a .task) (waitLength (a .task) (heard e answer ∷ calls)) in
+    (sum .number ≡ 0) × (a .clashes ≤ sum .sum)
+
+abbrev pub AdmittedWithin : Type 0
+AdmittedWithin = InEveryRun (λ rank start s calls. (e : Event) → AdmissionsWithin e (step rank s e) calls)
+
 -- ---- e. no two running transactions clash, and at most m run
 
 abbrev pub Apart : Session → Type 0
@@ -150,3 +161,8 @@ pub record Told (start s : Session) (calls : List Call) (i : ℕ) : Type 0 where
 
 abbrev pub AsTold : Type 0
 AsTold = InEveryRun (λ rank start s calls. (i : ℕ) → i < s .n → Told start s calls i)
+
+-- 'A wait runs from its release's tick to the tick of the event that admits it': of a task that does not wait, the last wait has come to the tick of the last call that
+-- admitted it, whatever came after; both are 0 where it never waited. Of one that waits, `Told` has it.
+abbrev pub WaitsEnd : Type 0
+WaitsEnd = InEveryRun (λ rank start s calls. (i : ℕ) → i < s .n → waiting s i ≡ false → lasted i calls ≡ admittedAt i calls)

@@ -162,6 +162,12 @@ unfolding stage
 lasted i [] = 0
 lasted i (c ∷ before) = cond (deferred c i || (accepted c && inWait i before)) (c .event .tick) (lasted i before)
 
+-- the tick of the last call whose scan admitted task i; 0 where none did
+unfoldable pub admittedAt : ℕ → List Call → ℕ
+unfolding names
+admittedAt i [] = 0
+admittedAt i (c ∷ before) = cond (admits c i) (c .event .tick) (admittedAt i before)
+
 abbrev pub waitLength : ℕ → List Call → ℕ
 waitLength i calls = lasted i calls - began i calls
 

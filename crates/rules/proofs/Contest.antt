@@ -10,6 +10,7 @@ use Rattle.objects.specs.Objects.{Sets, clash, clashOn, Clash, ClashOn}
 use Rattle.objects.specs.Below.{any}
 use Rattle.objects.proofs.Laws.Below.{below-or-from, any-witness, any-at, and-left, and-right, and-both}
 use Rattle.objects.proofs.Laws.Clash.{clash-plain, clash-on-plain}
+use Rattle.objects.proofs.Laws.Plainly.{Passes, least-lowest, count-many, lowest-same, many-same}
 use Rattle.rules.specs.declared.Session.{Session}
 use Rattle.rules.specs.declared.Said.{Said}
 use Rattle.rules.specs.declared.Said.the-variants.{Ok, Run, No}
@@ -18,9 +19,9 @@ use Rattle.rules.specs.Answers.{isWait}
 use Rattle.rules.specs.Ranking.{Ranking}
 use Rattle.rules.specs.Tasks.{taskAt, executing, setsAt, setsOf}
 use Rattle.rules.specs.Room.{rankAt}
-use Rattle.rules.specs.Contest.{clashing, blocked, contestedOn, highestClashing, Blocked, BlockedPlain, ContestedPlain, HighestClashing, HighestPlain}
+use Rattle.rules.specs.Contest.{clashing, blocked, contestedOn, lowestContested, contestedCount, highestClashing, Blocked, ContestedOn, BlockedPlain, ContestedPlain, LowestContestedPlain, ContestedCountPlain, HighestClashing, HighestPlain}
 use Rattle.rules.specs.Events.{releaseNumber, refused, waitSaid}
-use Rattle.rules.specs.Reachable.{WaitSays, OthersSay, AnswerSays}
+use Rattle.rules.specs.Reachable.{WaitSays, OthersSay, AnswerSays, WaitsPlainly}
 use Rattle.rules.proofs.Laws.Foremost.{foremost-found, foremost-first}
 use Rattle.rules.proofs.Laws.Numbers.{timely}
 use Rattle.rules.proofs.Laws.Steps.{arrive-cases, release-cases, commit-cases, finish-cases, step-cases}
@@ -50,6 +51,27 @@ blocked-plain s x = some-plain s (λ j. clash x (setsAt s j)) (λ j. Clash x (se
 pub contested-plain : ContestedPlain
 unfolding contestedOn
 contested-plain s x b l = some-plain s (λ j. clashOn x (setsAt s j) b) (λ j. ClashOn x (setsAt s j) b) (λ j. clash-on-plain x (setsAt s j) b l)
+
+said-plainly : (s : Session) (x : Sets) (b : ℕ) → Passes 256 (contestedOn s x) b → ContestedOn s x b
+said-plainly s x b p = contested-plain s x b (p .0) .0 (p .1)
+
+plainly-said : (s : Session) (x : Sets) (b : ℕ) → ContestedOn s x b → Passes 256 (contestedOn s x) b
+plainly-said s x b c = (c .3 .object, contested-plain s x b (c .3 .object) .1 c)
+
+-- there is a contested object where it clashes with an executing transaction
+pub lowest-contested-plain : LowestContestedPlain
+unfolding lowestContested
+lowest-contested-plain s x b =
+    let w = b .3 .0 in
+    let some = any-at 256 (contestedOn s x) w (b .3 .1 .object) (contested-plain s x w (b .3 .1 .object) .1 (b .0, b .1, b .2, b .3 .1)) in
+    lowest-same (Passes 256 (contestedOn s x)) (ContestedOn s x) (said-plainly s x) (plainly-said s x) (lowestContested s x)
+    (least-lowest 256 (contestedOn s x) some)
+
+pub contested-count-plain : ContestedCountPlain
+unfolding contestedCount
+contested-count-plain s x =
+    many-same (Passes 256 (contestedOn s x)) (ContestedOn s x) (said-plainly s x) (plainly-said s x) (contestedCount s x)
+    (count-many 256 (contestedOn s x))
 
 pub highest-plain : HighestPlain
 unfolding highestClashing
@@ -126,4 +148,14 @@ answer-says rank strict s e =
     waits z clashes = (
       λ p. (refl, refl, highest-plain rank strict s x (release-few rank s (e .tick) (e .task) z) .0 (blocked-plain s x .0 clashes)),
       λ p. absurd (false≢true (sym p)),
+    )
+
+-- what is named executes and clashes, so there is a contested object
+pub waits-plainly : WaitsPlainly
+waits-plainly rank strict s e w =
+    let x = setsOf (e .reads) (e .writes) in
+    let says = answer-says rank strict s e .0 w in
+    let named = says .2 in (
+      rw (says .0) (lowest-contested-plain s x (_, named .below, named .executes, named .clashes)),
+      rw (says .1) (contested-count-plain s x),
     )

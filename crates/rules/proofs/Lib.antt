@@ -16,3 +16,4 @@ pub mod Known
 pub mod Demand3
 pub mod Ended
 pub mod Contest
+pub mod NoTask

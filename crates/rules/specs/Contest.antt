@@ -2,7 +2,7 @@
 use Prim.Native.Nat.{ℕ, _≤_, _<_}
 use mathlib.Core.Path.{_≡_}
 use mathlib.Core.Bool.{Bool, true, _&&_}
-use Rattle.objects.specs.Below.{any, count, least}
+use Rattle.objects.specs.Below.{any, count, least, Lowest, SoMany}
 use Rattle.objects.specs.Objects.{Sets, clash, clashOn, Clash, ClashOn}
 use Rattle.rules.specs.declared.Session.{Session}
 use Rattle.rules.specs.Ranking.{Ranking, Strict, foremost}
@@ -52,6 +52,14 @@ BlockedPlain = (s : Session) (x : Sets) → (blocked s x ≡ true → Blocked s 
 abbrev pub ContestedPlain : Type 0
 ContestedPlain =
     (s : Session) (x : Sets) (b : ℕ) → b < 256 → (contestedOn s x b ≡ true → ContestedOn s x b) × (ContestedOn s x b → contestedOn s x b ≡ true)
+
+-- 'the lowest contested object number': a contested object below which none is contested, where there is one
+abbrev pub LowestContestedPlain : Type 0
+LowestContestedPlain = (s : Session) (x : Sets) → Blocked s x → Lowest (ContestedOn s x) (lowestContested s x)
+
+-- 'how many objects are contested', 'each counted once': as many as stand in a list that has each contested object, once, and no other
+abbrev pub ContestedCountPlain : Type 0
+ContestedCountPlain = (s : Session) (x : Sets) → SoMany (ContestedOn s x) (contestedCount s x)
 
 -- Task i is the one that is named: it executes, it clashes, and no executing one that clashes ranks above it.
 pub record HighestClashing (rank : Ranking) (s : Session) (x : Sets) (i : ℕ) : Type 0 where

@@ -5,20 +5,23 @@ use mathlib.Core.Path.{_≡_}
 use mathlib.Core.Logic.{_⊎_, _≢_}
 use mathlib.Core.Bool.{true, false}
 use lib.ListN.{length, getD}
-use Rattle.objects.specs.Below.{count}
+use Rattle.objects.specs.Below.{count, Lowest, SoMany}
 use Rattle.objects.specs.Objects.{Sets, clash}
 use Rattle.rules.specs.declared.Setup.{Setup}
 use Rattle.rules.specs.declared.Arrival.the-variants.{At}
 use Rattle.rules.specs.declared.Session.{Session}
 use Rattle.rules.specs.declared.Event.{Event}
 use Rattle.rules.specs.declared.Said.{Said}
+use Rattle.rules.specs.declared.Said.the-variants.{No}
+use Rattle.rules.specs.declared.Answer.{Answer}
 use Rattle.rules.specs.Answers.{isWait, number, object, contested, whom}
 use Rattle.rules.specs.Ranking.{Ranking, Strict, Stays}
 use Rattle.rules.specs.Tasks.{isAbsent, waitOf, taskAt, stateAt, waiting, executing, setsAt, setsOf, noTask}
-use Rattle.rules.specs.Setup.{setupNumber, fresh, termsNumber}
+use Rattle.rules.specs.Setup.{setupNumber, fresh, start, termsNumber}
 use Rattle.rules.specs.Room.{room}
-use Rattle.rules.specs.Contest.{blocked, lowestContested, contestedCount, HighestClashing}
+use Rattle.rules.specs.Contest.{blocked, lowestContested, contestedCount, ContestedOn, HighestClashing}
 use Rattle.rules.specs.Events.{step}
+use Rattle.rules.specs.Sum.{summed}
 
 -- ---- the record
 
@@ -88,3 +91,27 @@ AnswerSays =
     (rank : Ranking) → Strict rank → (s : Session) (e : Event)
     → (isWait (step rank s e .said) ≡ true → WaitSays rank s (setsOf (e .reads) (e .writes)) (step rank s e .said))
     × (isWait (step rank s e .said) ≡ false → OthersSay (step rank s e .said))
+
+-- The object and the number that a wait is answered with, said plainly: a contested object below which none is contested, and as many as are contested.
+abbrev pub WaitPlainly : Session → Sets → Said → Type 0
+WaitPlainly s x said = Lowest (ContestedOn s x) (object said) × SoMany (ContestedOn s x) (contested said)
+
+abbrev pub WaitsPlainly : Type 0
+WaitsPlainly =
+    (rank : Ranking) → Strict rank → (s : Session) (e : Event) → isWait (step rank s e .said) ≡ true
+    → WaitPlainly s (setsOf (e .reads) (e .writes)) (step rank s e .said)
+
+-- 'task not below n', of any session at all: 1, no admission, and the session as it was
+abbrev pub RefusedBy1 : Session → Answer → Type 0
+RefusedBy1 s a = (a .said ≡ No 1) × (a .admitted .count ≡ 0) × (a .session ≡ s)
+
+abbrev pub BadTask : Type 0
+BadTask = (rank : Ranking) (s : Session) (e : Event) → s .n ≤ e .task → RefusedBy1 s (step rank s e)
+
+-- 'A refused setup makes no session; what comes back in its place has m and n 0 and every task absent, so every event and every sum asked of it gets 1'
+abbrev pub NoSessionAnswers : Type 0
+NoSessionAnswers =
+    (u : Setup) → 1 ≤ number (start u .said)
+    → let s = start u .session in
+    ((rank : Ranking) (e : Event) → RefusedBy1 s (step rank s e))
+    × ((i length : ℕ) → (summed s i length .number ≡ 1) × (summed s i length .sum ≡ 0))

@@ -1,5 +1,5 @@
 -- Setup: its refusals, the fresh session, and what stands in the place of one where a setup is refused.
-use Prim.Native.Nat.{ℕ, zero, suc}
+use Prim.Native.Nat.{ℕ, zero, suc, _≤_}
 use mathlib.Core.Path.{_≡_}
 use mathlib.Core.List.{List}
 use mathlib.Core.Bool.{Bool, true, cond, _&&_}
@@ -12,7 +12,9 @@ use Rattle.rules.specs.declared.Task.{Task}
 use Rattle.rules.specs.declared.Session.{Session}
 use Rattle.rules.specs.declared.Started.{Started}
 use Rattle.rules.specs.declared.Said.the-variants.{Ok, No}
-use Rattle.rules.specs.Tasks.{allowed, freshTask, noTerms, noTask}
+use Rattle.rules.specs.declared.State.the-variants.{Absent}
+use Rattle.rules.specs.Answers.{number}
+use Rattle.rules.specs.Tasks.{allowed, freshTask, noTerms, noTask, stateAt}
 
 abbrev pub termsAt : Setup → ℕ → Terms
 termsAt u i = getD (u .terms) i noTerms
@@ -63,6 +65,15 @@ start u =
     cond (eqb (setupNumber u) 0)
     (record { said = Ok; session = fresh u })
     (record { said = No (setupNumber u); session = noSession })
+
+-- The same said plainly: what comes back in the place of a session has m and n 0 and every task absent.
+pub record NoSession (s : Session) : Type 0 where
+  pub m : s .m ≡ 0
+  pub n : s .n ≡ 0
+  pub absent : (i : ℕ) → stateAt s i ≡ Absent
+
+abbrev pub RefusedStart : Type 0
+RefusedStart = (u : Setup) → 1 ≤ number (start u .said) → NoSession (start u .session)
 
 -- 'Two setups are equal if m, n and the numbers of the tasks below n are.'
 abbrev pub sameTerms : Terms → Terms → Bool

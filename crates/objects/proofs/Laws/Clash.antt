@@ -111,11 +111,11 @@ clash-groups x y =
 
 -- ---- what a reader believes
 
-has-plain : (set : Groups) (b : ℕ) → has set b ≡ true → Has set b
+pub has-plain : (set : Groups) (b : ℕ) → has set b ≡ true → Has set b
 unfolding has
 has-plain set b = bit-set (set (b / 64)) (b % 64)
 
-plain-has : (set : Groups) (b : ℕ) → Has set b → has set b ≡ true
+pub plain-has : (set : Groups) (b : ℕ) → Has set b → has set b ≡ true
 unfolding has
 plain-has set b = set-bit (set (b / 64)) (b % 64)
 

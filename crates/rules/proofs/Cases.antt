@@ -5,11 +5,16 @@ use Rattle.rules.specs.Setup.{setupNumber, fresh}
 use Rattle.rules.specs.Events.{after}
 use Rattle.rules.specs.Sum.{bound}
 use Rattle.rules.specs.Lines.{eventLines}
-use Rattle.rules.specs.Cases.{WholeSession, WholeSum, DeferredReleaseScans, FinishScans, OneOfTwoAdmitted, CommittedEmpty, OnlyClashingCommits, RanAndDidNot, HighestOfSeveral, UsedUp, OnePeriodLater, SixBeforeSeven, FirstNumberAnswered, LowestTaskFirst, OneProcessor, LastObjectContested, TwoAdmitted}
+use Rattle.rules.specs.History.{began, lasted, passed, retried}
+use Rattle.rules.specs.Cases.{callsAfter, WholeSession, WholeWait, WholeSum, DeferredReleaseScans, FinishScans, OneOfTwoAdmitted, CommittedEmpty, OnlyClashingCommits, RanAndDidNot, HighestOfSeveral, UsedUp, OnePeriodLater, SixBeforeSeven, FirstNumberAnswered, LowestTaskFirst, OneProcessor, LastObjectContested, TwoAdmitted}
 
 pub whole-session : WholeSession
 unfolding byPriority fresh eventLines
 whole-session = refl
+
+pub whole-wait : WholeWait
+unfolding byPriority fresh callsAfter began lasted passed retried
+whole-wait = (refl, refl, refl, refl, refl)
 
 pub whole-sum : WholeSum
 unfolding fresh bound

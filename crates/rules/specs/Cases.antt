@@ -10,12 +10,13 @@ use Rattle.rules.specs.declared.Kind.{Kind}
 use Rattle.rules.specs.declared.Kind.the-variants.{Arrive, Release, Commit, Finish}
 use Rattle.rules.specs.declared.Event.{Event}
 use Rattle.rules.specs.declared.Said.the-variants.{Ok, Run, Wait, No}
-use Rattle.rules.specs.Ranking.{byPriority}
+use Rattle.rules.specs.Ranking.{Ranking, byPriority}
 use Rattle.rules.specs.Tasks.{noTerms}
 use Rattle.rules.specs.Setup.{setupNumber, fresh}
-use Rattle.rules.specs.Events.{empty, after}
+use Rattle.rules.specs.Events.{empty, step, after}
 use Rattle.rules.specs.Sum.{bound}
 use Rattle.rules.specs.Lines.{Line, event, admit, end, eventLines}
+use Rattle.rules.specs.History.{Call, tasksOf, heard, began, lasted, waitLength, passed, retried}
 
 -- ---- how a case is written down
 
@@ -59,6 +60,22 @@ wholeLines =
 
 abbrev pub WholeSession : Type 0
 WholeSession = eventLines byPriority (fresh wholeSetup) 0 wholeEvents ≡ wholeLines
+
+-- the calls that a list of events makes, after those before it, the latest first
+unfoldable pub callsAfter : Ranking → Session → List Call → List Event → List Call
+unfolding step tasksOf
+callsAfter rank s calls [] = calls
+callsAfter rank s calls (e ∷ more) = let a = step rank s e in callsAfter rank (a .session) (heard e a ∷ calls) more
+
+abbrev pub wholeCalls : List Call
+wholeCalls = callsAfter byPriority (fresh wholeSetup) [] wholeEvents
+
+-- 'Task 1 waited 4 ticks': from its release at tick 3 to tick 7, at which 2 commits and it is admitted, whatever comes after. Both 0 and 2 committed while it waited, and it ran
+-- before neither: m = 2, just before 0 commits two were executing, and just before 2 commits one was, with task 0 plain.
+abbrev pub WholeWait : Type 0
+WholeWait =
+    (began 1 wholeCalls ≡ 3) × (lasted 1 wholeCalls ≡ 7) × (waitLength 1 wholeCalls ≡ 4) × (passed 1 wholeCalls ≡ 2)
+    × (retried byPriority (fresh wholeSetup) 1 wholeCalls ≡ 0)
 
 -- 'Task 1 waited 4 ticks; the sum is 2×2 + 1×2 = 6.'
 abbrev pub WholeSum : Type 0

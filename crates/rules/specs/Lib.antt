@@ -10,7 +10,7 @@ pub mod Listed
 pub mod Events
 pub mod Sum
 pub mod Lines
-pub mod Cases
 pub mod Reachable
 pub mod History
+pub mod Cases
 pub mod Demand3

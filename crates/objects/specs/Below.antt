@@ -46,7 +46,7 @@ pub record Lowest (P : ℕ → Type 0) (b : ℕ) : Type 0 where
 
 -- no number stands in the list twice
 pub data Distinct : List ℕ → Type 0 where
-  nobody : Distinct []
+  empty : Distinct []
   more : {b : ℕ} {list : List ℕ} → ¬ List·Memᴰ b list → Distinct list → Distinct (b ∷ list)
 
 -- the list has the numbers that have P, all of them and no others, each once

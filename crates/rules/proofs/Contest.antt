@@ -2,7 +2,7 @@
 -- wait names is the foremost of those that clash, and with a strict ranking there is one foremost.
 use Prim.Native.Nat.{ℕ, _≤_, _<_}
 use mathlib.Core.Path.{_≡_, refl, sym, _∙_}
-use mathlib.Core.Logic.{_≢_, ⊎-elim}
+use mathlib.Core.Logic.{inl, inr, _≢_, ⊎-elim}
 use mathlib.Core.Bool.{Bool, true, false, _&&_, false≢true}
 use native.Mathlib.Nat.{le-antisymm}
 use native.Mathlib.Omega.{arith}
@@ -20,10 +20,13 @@ use Rattle.rules.specs.Ranking.{Ranking}
 use Rattle.rules.specs.Tasks.{taskAt, executing, setsAt, setsOf}
 use Rattle.rules.specs.Room.{rankAt}
 use Rattle.rules.specs.Contest.{clashing, blocked, contestedOn, lowestContested, contestedCount, highestClashing, Blocked, ContestedOn, BlockedPlain, ContestedPlain, LowestContestedPlain, ContestedCountPlain, HighestClashing, HighestPlain}
+use Rattle.rules.specs.Scan.{scan}
+use Rattle.rules.specs.Listed.{ScanLeaves}
 use Rattle.rules.specs.Events.{releaseNumber, refused, waitSaid}
 use Rattle.rules.specs.Reachable.{WaitSays, OthersSay, AnswerSays, WaitsPlainly}
 use Rattle.rules.proofs.Laws.Foremost.{foremost-found, foremost-first}
 use Rattle.rules.proofs.Laws.Numbers.{timely}
+use Rattle.rules.proofs.Laws.Scan.{scan-held}
 use Rattle.rules.proofs.Laws.Steps.{arrive-cases, release-cases, commit-cases, finish-cases, step-cases}
 
 -- What is asked of the executing tasks, and agrees with what is said plainly of each: so it does of one that executes, and of whether there is one.
@@ -159,3 +162,10 @@ waits-plainly rank strict s e w =
       rw (says .0) (lowest-contested-plain s x (_, named .below, named .executes, named .clashes)),
       rw (says .1) (contested-count-plain s x),
     )
+
+-- ---- what a scan leaves
+
+pub scan-leaves : ScanLeaves
+scan-leaves rank strict stays s small i l w =
+    let s′ = scan rank s .session in
+    elim (scan-held rank strict stays s small i l w) [ inl b ↦ inl (blocked-plain s′ (setsAt s′ i) .0 b) | inr r ↦ inr r ]

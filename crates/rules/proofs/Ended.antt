@@ -14,12 +14,12 @@ use Rattle.rules.specs.declared.Event.{Event}
 use Rattle.rules.specs.declared.Said.{Said}
 use Rattle.rules.specs.declared.Answer.{Answer}
 use Rattle.rules.specs.Answers.{isWait, number}
-use Rattle.rules.specs.Ranking.{Ranking, Strict, Stays}
+use Rattle.rules.specs.Ranking.{Ranking, Stays}
 use Rattle.rules.specs.Tasks.{isWaiting, taskAt, stateAt, waiting}
 use Rattle.rules.specs.Room.{ran}
 use Rattle.rules.specs.Events.{raisedState, raisedTask, step}
 use Rattle.rules.specs.History.{Call, heard, tasksOf, names, admits, releases, deferred, lasted, admittedAt}
-use Rattle.rules.specs.Demand3.{Start, Run, begun, called, WaitsEnd}
+use Rattle.rules.specs.Demand3.{begun, called, WaitsEnd}
 use Rattle.rules.proofs.Laws.Alike.{at-or-other}
 use Rattle.rules.proofs.Laws.Listed.{Settled, Each}
 use Rattle.rules.proofs.Moves.{Own, arrives, runs, waits, commits, finishes, passedOver, Moved, Taken, refuses, accepts, taken}

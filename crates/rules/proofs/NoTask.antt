@@ -10,7 +10,6 @@ use lib.Dec.{eqb}
 use lib.ListN.{getD, replicate, getD-replicate, length-replicate, List·getD-eq-default}
 use borrow.Author.Tests.{le-ltb, eq-eqb}
 use Rattle.objects.proofs.Laws.Below.{below-or-from, sum-zero}
-use Rattle.rules.specs.declared.Setup.{Setup}
 use Rattle.rules.specs.declared.Task.{Task}
 use Rattle.rules.specs.declared.Session.{Session}
 use Rattle.rules.specs.declared.Said.the-variants.{Ok, No}
@@ -20,8 +19,8 @@ use Rattle.rules.specs.declared.Summed.{Summed}
 use Rattle.rules.specs.Answers.{number}
 use Rattle.rules.specs.Ranking.{Ranking}
 use Rattle.rules.specs.Tasks.{allowed, known, noTask, taskAt}
-use Rattle.rules.specs.Setup.{setupNumber, fresh, noSession, start, NoSession, RefusedStart}
-use Rattle.rules.specs.Events.{trying, arriveNumber, releaseNumber, commitNumber, finishNumber, refused, arrive, release, commit, finish, step}
+use Rattle.rules.specs.Setup.{setupNumber, fresh, noSession, start, NoSession, NoSessionPlain, RefusedStart}
+use Rattle.rules.specs.Events.{trying, arriveNumber, releaseNumber, commitNumber, finishNumber, refused, arrive, release, commit, finish}
 use Rattle.rules.specs.Sum.{share, bound, summed, BadTaskSum, AloneSum}
 use Rattle.rules.specs.Reachable.{RefusedBy1, BadTask, NoSessionAnswers}
 use Rattle.rules.proofs.Laws.Steps.{step-cases}
@@ -95,9 +94,9 @@ none-absent i = go (below-or-from i 64)
     go (inl l) = getD-replicate 64 i noTask noTask l
     go (inr l) = List·getD-eq-default (replicate 64 noTask) noTask (le-trans (le-of-eq (length-replicate 64 noTask)) l)
 
-no-session : NoSession noSession
+pub no-session-plain : NoSessionPlain
 unfolding noSession
-no-session = record { m = refl; n = refl; absent = λ i. ap (λ (t : Task). t .state) (none-absent i) }
+no-session-plain = record { m = refl; n = refl; absent = λ i. ap (λ (t : Task). t .state) (none-absent i) }
 
 pub refused-start : RefusedStart
 unfolding start
@@ -108,7 +107,7 @@ refused-start u given = go (eqb (setupNumber u) 0) given
 
     go : (b : Bool) → 1 ≤ number (answer b .said) → NoSession (answer b .session)
     go true l = absurd (omega arith)
-    go false l = no-session
+    go false l = no-session-plain
 
 pub no-session-answers : NoSessionAnswers
 no-session-answers u given =

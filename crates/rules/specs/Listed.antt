@@ -1,15 +1,16 @@
--- What a scan lists, plainly: who is listed, in which order, and that nobody else began to execute.
+-- What a scan lists, plainly: who is listed, in which order, and that nobody else began to execute. And what it leaves waiting.
 use Prim.Native.Nat.{ℕ, _≤_, _<_}
 use mathlib.Core.Path.{_≡_}
-use mathlib.Core.Logic.{_≢_}
+use mathlib.Core.Logic.{_⊎_, _≢_}
 use mathlib.Core.Bool.{true, false}
 use lib.ListN.{getD}
 use Rattle.rules.specs.declared.Session.{Session}
 use Rattle.rules.specs.declared.Admission.{Admission}
 use Rattle.rules.specs.declared.Admissions.{Admissions}
-use Rattle.rules.specs.Ranking.{Ranking}
-use Rattle.rules.specs.Tasks.{waitOf, stateAt, waiting, executing}
-use Rattle.rules.specs.Room.{rankAt}
+use Rattle.rules.specs.Ranking.{Ranking, Strict, Stays}
+use Rattle.rules.specs.Tasks.{waitOf, stateAt, waiting, executing, setsAt}
+use Rattle.rules.specs.Room.{rankAt, room}
+use Rattle.rules.specs.Contest.{Blocked}
 use Rattle.rules.specs.Scan.{noAdmission, scan}
 
 -- the admission at place k of the list
@@ -36,3 +37,11 @@ pub record Lists (rank : Ranking) (s : Session) (a : Admissions) (s′ : Session
 -- Of any ranking and any session whose m the list has places for.
 abbrev pub ScanLists : Type 0
 ScanLists = (rank : Ranking) (s : Session) → s .m ≤ 16 → Lists rank s (scan rank s .admitted) (scan rank s .session)
+
+-- 'One that clashes with no transaction executing at that moment, and has room at that moment, becomes executing': so each one that still waits after the scan clashes with an
+-- executing one or has no room, whatever the session was before.
+abbrev pub ScanLeaves : Type 0
+ScanLeaves =
+    (rank : Ranking) → Strict rank → Stays rank → (s : Session) → s .n ≤ 64
+    → let s′ = scan rank s .session in
+    (i : ℕ) → i < s′ .n → waiting s′ i ≡ true → Blocked s′ (setsAt s′ i) ⊎ (room rank s′ i ≡ false)

@@ -72,6 +72,9 @@ pub record NoSession (s : Session) : Type 0 where
   pub n : s .n ≡ 0
   pub absent : (i : ℕ) → stateAt s i ≡ Absent
 
+abbrev pub NoSessionPlain : Type 0
+NoSessionPlain = NoSession noSession
+
 abbrev pub RefusedStart : Type 0
 RefusedStart = (u : Setup) → 1 ≤ number (start u .said) → NoSession (start u .session)
 

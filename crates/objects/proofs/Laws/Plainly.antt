@@ -7,7 +7,7 @@ use mathlib.Core.Bool.{Bool, true, false, cond}
 use native.Mathlib.Nat.{not-suc-le-zero, le-step}
 use native.Mathlib.Omega.{arith}
 use lib.ListN.{length}
-use Rattle.objects.specs.Below.{any, one, sum, count, least, Lowest, Distinct, nobody, more, Members, SoMany}
+use Rattle.objects.specs.Below.{any, one, sum, count, least, Lowest, empty, more, Members, SoMany}
 use Rattle.objects.specs.Objects.{Groups, has, lowestObject, howMany}
 use Rattle.objects.specs.Laws.{ObjectOf, LowestPlain, HowManyPlain}
 use Rattle.objects.proofs.Laws.Below.{below-suc, not-both, not-true-false, any-at, any-none, least-has, least-before, least-found}
@@ -31,7 +31,7 @@ members (suc k) f = cond (f k) (k ∷ members k f) (members k f)
 
 members-are : (k : ℕ) (f : ℕ → Bool) → Members (Passes k f) (members k f)
 unfolding members
-members-are zero f = record { each = λ b m. absurd (List·Memᴰ·not-nil m); all = λ b p. absurd (not-suc-le-zero (p .0)); once = nobody }
+members-are zero f = record { each = λ b m. absurd (List·Memᴰ·not-nil m); all = λ b p. absurd (not-suc-le-zero (p .0)); once = empty }
 members-are (suc k) f = go (members-are k f) (f k) refl
   where
     list : List ℕ
@@ -96,7 +96,7 @@ lowest-plain set = (
       let q = back set b p in
       let some : any 256 (has set) ≡ true = any-at 256 (has set) b (q .0) (q .1) in
       rw some (lowest-same (Passes 256 (has set)) (ObjectOf set) (there set) (back set) (least 256 (has set)) (least-lowest 256 (has set) some)),
-  λ empty. rw (any-none 256 (has set) (λ b l. not-true-false (has set b) (λ e. empty b (there set b (l, e))))),
+  λ without. rw (any-none 256 (has set) (λ b l. not-true-false (has set b) (λ e. without b (there set b (l, e))))),
 )
 
 pub how-many-plain : HowManyPlain

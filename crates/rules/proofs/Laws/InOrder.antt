@@ -17,14 +17,14 @@ use Rattle.rules.specs.declared.Admission.{Admission}
 use Rattle.rules.specs.Ranking.{Ranking}
 use Rattle.rules.specs.Tasks.{isExecuting, stateAt, executing}
 use Rattle.rules.specs.Room.{rankAt}
-use Rattle.rules.specs.Scan.{next, admissible, Scanned, noAdmission, none, admission, admit, tried, scan}
-use Rattle.rules.specs.Listed.{admissionAt, Lists, ScanLists}
+use Rattle.rules.specs.Scan.{admissible, Scanned, noAdmission, none, admission, admit, tried, scan}
+use Rattle.rules.specs.Listed.{admissionAt, ScanLists}
 use Rattle.rules.specs.History.{tasksOf, names}
 use Rattle.rules.proofs.Laws.Foremost.{Found}
 use Rattle.rules.proofs.Laws.Keeping.{kept-waiting, kept-executing, admitted, admitted-kept, admitted-executes}
 use Rattle.rules.proofs.Laws.Looks.{look-ends}
 use Rattle.rules.proofs.Laws.Scan.{scan-few}
-use Rattle.rules.proofs.Laws.Listed.{Each, Settled, Listing, none-listing, listing-fits, admit-listing}
+use Rattle.rules.proofs.Laws.Listed.{Each, Listing, none-listing, listing-fits, admit-listing}
 
 -- a task that a list names stands at a place of it
 named-place : (list : List Admission) (c i : ℕ) → names (tasksOf (take c list)) i ≡ true → (k : ℕ) × (k < c) × (getD list k noAdmission .task ≡ i)
@@ -119,8 +119,8 @@ module _ (rank : Ranking) (s : Session) (few : s .m ≤ 16) where
       })
 
   -- one that executes now and did not is named
-  began : (i : ℕ) → executing s i ≡ false → executing (scan rank s .session) i ≡ true → names (tasksOf (take (scan rank s .admitted .count) (scan rank s .admitted .list))) i ≡ true
-  began i was is = go (scan-ordered .1 .listing .settled .each i)
+  now-named : (i : ℕ) → executing s i ≡ false → executing (scan rank s .session) i ≡ true → names (tasksOf (take (scan rank s .admitted .count) (scan rank s .admitted .list))) i ≡ true
+  now-named i was is = go (scan-ordered .1 .listing .settled .each i)
     where
       go : {named : Bool} → Each s (scan rank s .session) named i → named ≡ true
       go (inl q) = absurd (not-both (executing s i) (ap (λ (t : Task). isExecuting (t .state)) (sym (q .0)) ∙ is) was)
@@ -139,5 +139,5 @@ scan-lists rank s few =
       retries = λ k l. ap (λ (a : Admission). a .retries) (entries k l .2);
       ranked = p .ranked;
       once = λ j k m l q. omega (arith, p .ranked j k m l, ap (rankAt rank s) q);
-      all = λ i was is. named-place (scan rank s .admitted .list) (scan rank s .admitted .count) i (began rank s few i was is);
+      all = λ i was is. named-place (scan rank s .admitted .list) (scan rank s .admitted .count) i (now-named rank s few i was is);
     }

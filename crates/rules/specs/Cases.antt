@@ -235,7 +235,7 @@ LowestTaskFirst =
 -- ---- one processor, the last object, two admissions
 
 -- m = 1. While 0 executes nobody else has room, so the release of 1 gets 6; and 0 has none either, 1 + 0, but a commit asks for none. Then 1 is plain above 0: 1 has room and 0
--- has not. So nobody ever waits.
+-- has not. Nobody waits.
 abbrev pub OneProcessor : Type 0
 OneProcessor =
     eventLines byPriority (fresh (rising 1 fourTasks)) 0
@@ -248,8 +248,8 @@ OneProcessor =
 abbrev pub lastObject : List ℕ
 lastObject = 0 ∷ 0 ∷ 0 ∷ 2 ^ 63 ∷ []
 
-abbrev pub lastAndFirst : List ℕ
-lastAndFirst = 0 ∷ 1 ∷ 0 ∷ 2 ^ 63 ∷ []
+abbrev pub lastAnd64 : List ℕ
+lastAnd64 = 0 ∷ 1 ∷ 0 ∷ 2 ^ 63 ∷ []
 
 -- m = 3. 0 executes writing 255; 1 reads 255 and waits for it. 2 executes writing 64. 3 releases writing 64 and 255, which 2 and 0 have: the lowest contested
 -- object is 64, there are 2, and 2 is the highest ranked that it clashes with.
@@ -257,7 +257,7 @@ abbrev pub LastObjectContested : Type 0
 LastObjectContested =
     eventLines byPriority (fresh (rising 3 fourTasks)) 0
     (plainEvent Arrive 0 0 ∷ releaseOf 1 0 empty lastObject ∷ plainEvent Arrive 2 1 ∷ releaseOf 3 1 lastObject empty ∷ plainEvent Arrive 4 2
-    ∷ releaseOf 5 2 empty (0 ∷ 1 ∷ 0 ∷ 0 ∷ []) ∷ plainEvent Arrive 6 3 ∷ releaseOf 7 3 empty lastAndFirst ∷ [])
+    ∷ releaseOf 5 2 empty (0 ∷ 1 ∷ 0 ∷ 0 ∷ []) ∷ plainEvent Arrive 6 3 ∷ releaseOf 7 3 empty lastAnd64 ∷ [])
     ≡ event 0 Arrive 0 Ok ∷ event 1 Release 0 Run ∷ event 2 Arrive 1 Ok ∷ event 3 Release 1 (Wait 255 1 0) ∷ event 4 Arrive 2 Ok ∷ event 5 Release 2 Run
     ∷ event 6 Arrive 3 Ok ∷ event 7 Release 3 (Wait 64 2 2) ∷ end 8 0 ∷ []
 

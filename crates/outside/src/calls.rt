@@ -150,7 +150,7 @@ pub fn log_of(program: &[u8], c: Call, i: usize, name: &mut [u8]) -> Log
     }
     let size = os::arg(i, name);
     if os::errno() != 0 {
-        let place = if c.first <= i { i - c.first } else { i };
+        let place = if c.first <= i { i - c.first + 1 } else { i };
         return Log {
             fd: STDIN_FILENO,
             size: 0,

@@ -20,6 +20,9 @@ arg-requires c κs = search needs
 errno-requires : tie.Need-errno-requires
 errno-requires c κs = search needs
 
+add-place : tie.Need-add-place
+add-place c = search needs
+
 too-long-requires : tie.Need-too-long-requires
 too-long-requires c κs = search needs
 
@@ -55,6 +58,7 @@ log-of-spec =
     returns
     arg-requires
     errno-requires
+    add-place
     too-long-requires
     same-length-2
     returns-2

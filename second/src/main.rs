@@ -16,6 +16,7 @@
 //! - `second sheets PROGRAM [ARGS...]` compares another report program with this one.
 //! - `second sums PROGRAM [ARGS...]` compares another sum program with this one.
 //! - `second bench PROGRAM [ARGS...]` times another replay program against this one.
+//! - `second slowly PROGRAM [ARGS...]` runs a program with streams that do not block, slowly.
 //! - `second help`, `--help` and `-h` print the use; behind a subcommand, its own.
 //!
 //! Without a name, and where the name is `-`, standard input is read. The status is 0 if all is
@@ -30,7 +31,7 @@
 //! `folder`; then the replay's: `vectors` (sessions written down), `task_named`, `log_counts`,
 //! `compare` and `bench`; then the report's: `sheet_vectors` (lists written down), `sheet_counts`
 //! and `sheets`; then the sum's: `sum_vectors` (answers written down), `first_records` (bad ones),
-//! `sum_counts` and `sums`.
+//! `sum_counts` and `sums`; last `slowly`, for trying how a program reads and writes.
 
 mod bench;
 mod both_numbers;
@@ -57,6 +58,7 @@ mod seasons;
 mod sheet_counts;
 mod sheet_vectors;
 mod sheets;
+mod slowly;
 mod subcommands;
 mod sum;
 mod sum_counts;

@@ -12,7 +12,7 @@ use crate::output::{in_lines, in_pieces, print};
 use crate::random::Size;
 use crate::rules::{MOST_PROCESSORS, MOST_TASKS};
 use crate::trouble::{bad_line, Trouble};
-use crate::{bench, compare, damage, lines, report, seasons, sheets, sum, sums, text};
+use crate::{bench, compare, damage, lines, report, seasons, sheets, slowly, sum, sums, text};
 
 pub struct Subcommand {
     pub name: &'static str,
@@ -22,7 +22,7 @@ pub struct Subcommand {
     pub run: fn(&[OsString]) -> Run,
 }
 
-pub const SUBCOMMANDS: [Subcommand; 11] = [
+pub const SUBCOMMANDS: [Subcommand; 12] = [
     Subcommand {
         name: "replay",
         words: "[LOG]",
@@ -88,6 +88,12 @@ pub const SUBCOMMANDS: [Subcommand; 11] = [
         words: "PROGRAM [ARGS...]",
         does: "times another replay program against this one",
         run: |words| Ok(bench::bench(program(words)?, &mut in_lines())?),
+    },
+    Subcommand {
+        name: "slowly",
+        words: "PROGRAM [ARGS...]",
+        does: "runs a program with a standard input and output that do not block, slowly",
+        run: |words| Ok(slowly::slowly(program(words)?, &mut in_pieces())?),
     },
 ];
 

@@ -57,11 +57,11 @@ session (books {o = o} {s = s} r e) = underway (s .setup) o (s .calls) (session 
 -- ---- what is booked
 
 -- the tally and the row are those of what is booked, and it fits
-record Holds (start : List ℕ) (t : Tally) (row : List ℕ) (booked : List Item) : Type 0 where
-  agree : Agree (t .figures) booked
-  numbered : Numbered booked
-  fits : fitting booked ≡ true
-  row-is : row ≡ written start 0 (waitsIn booked)
+pub record Holds (start : List ℕ) (t : Tally) (row : List ℕ) (booked : List Item) : Type 0 where
+  pub agree : Agree (t .figures) booked
+  pub numbered : Numbered booked
+  pub fits : fitting booked ≡ true
+  pub row-is : row ≡ written start 0 (waitsIn booked)
 
 empty-holds : (u : Setup) (start : List ℕ) → Holds start (emptyTally u) start []
 unfolding emptyTally figuresOf total greatest fitting waitsIn written
@@ -123,7 +123,7 @@ module _ (start : List ℕ) (t : Tally) (row : List ℕ) (o : OpenSession) (s : 
       })
       go (inr q) = rw (q .0, q .1) holds
 
-holds : {u : Setup} {start : List ℕ} {t : Tally} {row : List ℕ} {o : OpenSession} {sessions : List Sitting} → Reported u start t row o sessions
+pub holds : {u : Setup} {start : List ℕ} {t : Tally} {row : List ℕ} {o : OpenSession} {sessions : List Sitting} → Reported u start t row o sessions
     → Holds start t row (ledger sessions)
 unfolding ledger bookedBy booking
 holds {u} {start} begun = empty-holds u start

@@ -1,7 +1,10 @@
--- The report: what is booked, by an event and into a tally, by the calls; then the same over the list of sessions, and the theorem that joins them.
+-- The report: what is booked, by an event and into a tally, by the calls; then the same over the list of sessions, and the theorem that joins them; and what the
+-- sheet says of all tasks, over numbers and lists alone.
 pub mod Items
 pub mod Booking
 pub mod Ledger
 pub mod Sheet
 pub mod Row
 pub mod Report
+pub mod Plain
+pub mod Cases

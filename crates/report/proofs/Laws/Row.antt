@@ -117,7 +117,7 @@ row-places start waits =
 last-at : (k : ℕ) (xs : List ℕ) (j : ℕ) → getD (lastOf k xs) j 0 ≡ getD xs (length xs - k + j) 0
 last-at k xs j = getD-drop (length xs - k) xs j 0
 
-last-length : (k : ℕ) (xs : List ℕ) → k ≤ length xs → length (lastOf k xs) ≡ k
+pub last-length : (k : ℕ) (xs : List ℕ) → k ≤ length xs → length (lastOf k xs) ≡ k
 last-length k xs l = omega (arith, length-drop (length xs - k) xs)
 
 last-all : (xs : List ℕ) → lastOf (length xs) xs ≡ xs

@@ -1,0 +1,30 @@
+-- The worked cases hold by computing both sides.
+use mathlib.Core.Path.{refl}
+use Rattle.report.specs.Booking.{emptyTally}
+use Rattle.report.specs.Ledger.{figuresOf}
+use Rattle.report.specs.Sheet.{middleOf, nineTenthsOf, most}
+use Rattle.report.specs.Cases.{OfNone, OfThree, OfEleven, OfTheLastThree, MostOfFour, afterSession, Twice}
+
+pub of-none : OfNone
+unfolding middleOf nineTenthsOf
+of-none = ((refl, refl), (refl, refl))
+
+pub of-three : OfThree
+unfolding middleOf nineTenthsOf
+of-three = (refl, refl)
+
+pub of-eleven : OfEleven
+unfolding middleOf nineTenthsOf
+of-eleven = (refl, refl)
+
+pub of-the-last-three : OfTheLastThree
+unfolding middleOf nineTenthsOf
+of-the-last-three = (refl, refl)
+
+pub most-of-four : MostOfFour
+unfolding figuresOf most
+most-of-four = refl
+
+pub session-twice : Twice
+unfolding emptyTally afterSession
+session-twice = refl

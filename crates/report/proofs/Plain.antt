@@ -1,16 +1,16 @@
 -- What the sheet says of all tasks, over numbers and lists alone: it follows from the theorem, with the places computed and each test read as what it says.
 use Prim.Native.Nat.{ℕ, zero, suc, _-_, _≤_, _<_, min, zero-le, suc-le-suc}
-use mathlib.Core.Path.{_≡_, refl, sym, ap, ap₂, subst, _∙_}
-use mathlib.Core.Logic.{_⊎_, inl, inr, _≢_}
-use mathlib.Core.List.{List, [], _∷_, _++_}
+use mathlib.Core.Path.{_≡_, refl, sym, ap, subst, _∙_}
+use mathlib.Core.Logic.{_⊎_, inl, inr}
+use mathlib.Core.List.{List, [], _∷_}
 use mathlib.Core.Bool.{Bool, true, false, _&&_}
 use native.Mathlib.Nat.{le-antisymm, not-suc-le-zero, le-of-suc-le-suc}
 use native.Mathlib.Omega.{arith}
-use lib.Dec.{eqb, leb, ltb}
-use lib.ListN.{length, getD, drop, take, length-append, length-drop, take-append-drop}
+use lib.Dec.{eqb, ltb}
+use lib.ListN.{length, getD, drop, take, length-append, take-append-drop}
 use lib.Seq.{drop-at}
 use borrow.Author.Tests.{eq-eqb, eqb-true, leb-true, le-leb, lt-ltb, ltb-true}
-use Rattle.objects.specs.Below.{one, all}
+use Rattle.objects.specs.Below.{one}
 use Rattle.objects.proofs.Laws.Below.{below-or-from, and-left, and-right, and-both, all-at}
 use Rattle.rising.specs.Order.{inRising}
 use Rattle.rising.specs.Laws.{timesIn, Stands}

@@ -13,6 +13,7 @@ use Rattle.report.specs.declared.OpenSession.{OpenSession}
 use Rattle.report.specs.Items.{Item, commit, wait, noFigures}
 use Rattle.report.specs.Booking.{noSetup, emptyTally, opening, booking, rowAfter}
 use Rattle.report.specs.Ledger.{figuresOf}
+use Rattle.report.specs.Left.{leftAfter}
 use Rattle.report.specs.Sheet.{middleOf, nineTenthsOf, most}
 
 -- ---- the wait at the middle and at nine tenths
@@ -57,10 +58,11 @@ MostOfFour = most (figuresOf 0 fourWaits ∷ figuresOf 1 fourWaits ∷ figuresOf
 
 -- ---- document 01's session, booked twice
 
--- a tally with its row
+-- a tally with its row, and how many events were left out
 pub record Lent : Type 0 where
   pub tally : Tally
   pub row : List ℕ
+  pub left : ℕ
 
 -- after events of an open session, booked one after another
 unfoldable pub afterEvents : Lent → OpenSession → List Event → Lent
@@ -68,19 +70,20 @@ unfolding booking rowAfter
 afterEvents x o [] = x
 afterEvents x o (e ∷ more) =
     let y = booking (x .tally) o e in
-    afterEvents (record { tally = y .tally; row = rowAfter (x .tally) o e (x .row) }) (y .booked .after) more
+    let after : Lent = record { tally = y .tally; row = rowAfter (x .tally) o e (x .row); left = leftAfter (x .left) (y .booked .number) } in
+    afterEvents after (y .booked .after) more
 
 -- after a session more
 unfoldable pub afterSession : Lent → Setup → List Event → Lent
 unfolding opening afterEvents
 afterSession x u events =
     let y = opening (x .tally) u in
-    afterEvents (record { tally = y .tally; row = x .row }) (y .opened .after) events
+    afterEvents (record { tally = y .tally; row = x .row; left = x .left }) (y .opened .after) events
 
 -- from an empty tally, with a row of three places
 abbrev pub sessionTwice : Lent
 sessionTwice =
-    afterSession (afterSession (record { tally = emptyTally noSetup; row = 0 ∷ 0 ∷ 0 ∷ [] }) wholeSetup wholeEvents) wholeSetup wholeEvents
+    afterSession (afterSession (record { tally = emptyTally noSetup; row = 0 ∷ 0 ∷ 0 ∷ []; left = 0 }) wholeSetup wholeEvents) wholeSetup wholeEvents
 
 -- Tasks 0 and 2 commit one transaction in each session, and never wait. Task 1 commits one in each, which had waited from tick 3 to tick 7, with two clashes and no retry:
 -- 'Task 1 waited 4 ticks', '`7 admit 1 2 0`'.
@@ -94,6 +97,7 @@ abbrev pub twice : Lent
 twice = record {
   tally = record { taken = true; setup = wholeSetup; figures = never ∷ waited ∷ never ∷ replicate 61 noFigures };
   row = 4 ∷ 4 ∷ 0 ∷ [];
+  left = 0;
 }
 
 abbrev pub Twice : Type 0

@@ -2,4 +2,5 @@
 pub mod Decimal
 pub mod Examples
 pub mod Writing
+pub mod Answers
 pub mod Admitted

@@ -1,9 +1,9 @@
 -- The worked cases hold by computing both sides.
 use mathlib.Core.Path.{refl}
 use Rattle.report.specs.Booking.{emptyTally}
-use Rattle.report.specs.Ledger.{figuresOf}
+use Rattle.report.specs.Ledger.{figuresOf, fitting}
 use Rattle.report.specs.Sheet.{middleOf, nineTenthsOf, most}
-use Rattle.report.specs.Cases.{OfNone, OfThree, OfEleven, OfTheLastThree, MostOfFour, afterSession, Twice}
+use Rattle.report.specs.Cases.{OfNone, OfThree, OfEleven, OfTheLastThree, MostOfFour, LargestFits, afterSession, Twice}
 
 pub of-none : OfNone
 unfolding middleOf nineTenthsOf
@@ -24,6 +24,10 @@ of-the-last-three = (refl, refl)
 pub most-of-four : MostOfFour
 unfolding figuresOf most
 most-of-four = refl
+
+pub largest-fits : LargestFits
+unfolding fitting
+largest-fits = (refl, refl, refl, refl)
 
 pub session-twice : Twice
 unfolding emptyTally afterSession

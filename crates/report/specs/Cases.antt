@@ -12,7 +12,7 @@ use Rattle.report.specs.declared.Tally.{Tally}
 use Rattle.report.specs.declared.OpenSession.{OpenSession}
 use Rattle.report.specs.Items.{Item, commit, wait, noFigures}
 use Rattle.report.specs.Booking.{noSetup, emptyTally, opening, booking, rowAfter}
-use Rattle.report.specs.Ledger.{figuresOf}
+use Rattle.report.specs.Ledger.{figuresOf, fitting}
 use Rattle.report.specs.Left.{leftAfter}
 use Rattle.report.specs.Sheet.{middleOf, nineTenthsOf, most}
 
@@ -55,6 +55,16 @@ fourWaits = commit 1 false ∷ wait 3 8 1 0 ∷ wait 2 5 2 2 ∷ wait 0 0 0 0 �
 
 abbrev pub MostOfFour : Type 0
 MostOfFour = most (figuresOf 0 fourWaits ∷ figuresOf 1 fourWaits ∷ figuresOf 2 fourWaits ∷ figuresOf 3 fourWaits ∷ []) 4 ≡ 2 ∷ 3 ∷ 0 ∷ []
+
+-- ---- 41
+
+-- '41, a total would pass 4,294,967,295': ticks, clashes and retries of a task that are 4,294,967,295 in all do not, and one more does; nor do those of two tasks together
+abbrev pub LargestFits : Type 0
+LargestFits =
+    (fitting (wait 0 4294967294 4294967294 4294967294 ∷ wait 0 1 1 1 ∷ wait 1 4294967295 0 0 ∷ []) ≡ true)
+    × (fitting (wait 0 4294967294 0 0 ∷ wait 0 2 0 0 ∷ []) ≡ false)
+    × (fitting (wait 0 0 4294967294 0 ∷ wait 0 0 2 0 ∷ []) ≡ false)
+    × (fitting (wait 0 0 0 4294967294 ∷ wait 0 0 0 2 ∷ []) ≡ false)
 
 -- ---- document 01's session, booked twice
 

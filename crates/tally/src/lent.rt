@@ -23,7 +23,7 @@ pub fn open_session(tally: &mut Tally, u: Setup) -> Opened
 pub fn book_event(tally: &mut Tally, row: &mut [u32], o: OpenSession, e: Event) -> Booked
     ensures { λ booked. ⌜ (booked ≡ booking (now (tally .entry)) o e .booked) × (now (tally .exit) ≡ booking (now (tally .entry)) o e .tally) × (now (row .exit) ≡ rowAfter (now (tally .entry)) o e (now (row .entry))) ⌝ }
 {
-    let x = booking(*tally, row, o, e);
-    *tally = x.tally;
-    x.booked
+    let y = booking(*tally, row, o, e);
+    *tally = y.tally;
+    y.booked
 }

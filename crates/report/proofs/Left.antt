@@ -1,8 +1,8 @@
 -- How many events are left out. The theorem says which: an event that the manager accepts, and with which some total would pass. The manager's own numbers end at 7, so that 41
 -- is none of them.
 use Prim.Native.Nat.{ℕ, _+_, _≤_, min}
-use mathlib.Core.Path.{_≡_, refl, sym, ap, _∙_}
-use mathlib.Core.List.{List, [], _∷_, _++_}
+use mathlib.Core.Path.{_≡_, refl, sym, ap, ap₂, _∙_}
+use mathlib.Core.List.{List, [], _∷_, _++_, append-nil, append-assoc}
 use mathlib.Core.Bool.{Bool, true, false, cond, not, _&&_}
 use native.Mathlib.Nat.{add-zero}
 use native.Mathlib.Omega.{arith}
@@ -19,14 +19,17 @@ use Rattle.rules.specs.Tasks.{isAbsent, isPlain, isExecuting, taskAt, stateAt, 
 use Rattle.rules.specs.Room.{room}
 use Rattle.rules.specs.Contest.{blocked}
 use Rattle.rules.specs.Events.{trying, early, arriveNumber, releaseNumber, commitNumber, finishNumber, refused, arrive, releaseAccepted, release, commit, finish, step}
+use Rattle.rules.specs.History.{heard}
 use Rattle.rules.proofs.Laws.Steps.{step-cases}
 use Rattle.report.specs.declared.Tally.{Tally}
 use Rattle.report.specs.declared.OpenSession.{OpenSession}
+use Rattle.report.specs.Items.{Item}
 use Rattle.report.specs.Booking.{booking}
-use Rattle.report.specs.Ledger.{booksOf, fitting, Sitting, ledger}
+use Rattle.report.specs.Ledger.{booksOf, fitting, bookedWith, bookedBy, Sitting, ledger}
 use Rattle.report.specs.Report.{Reported, begun, opens, books, heardBy, called}
-use Rattle.report.specs.Left.{leftBy, leftOf, fortyOnes, LeftCounted, LeftBegins, LeftOpens, LeftBooks}
-use Rattle.report.proofs.Report.{left-out}
+use Rattle.report.specs.Left.{leftBy, leftOf, allBy, allOf, NoneLeft, fortyOnes, LeftCounted, LeftBegins, LeftOpens, LeftBooks}
+use Rattle.report.proofs.Report.{session, left-out}
+use Rattle.report.proofs.Laws.Events.{books as booksEvent}
 
 -- ---- 'Events try 1 to 7'
 
@@ -118,6 +121,34 @@ counted (books {t = t} {o = o} r e) = ap (λ (k : ℕ). k + one (eqb (booking t 
 
 pub left-counted : LeftCounted
 left-counted u start t row o sessions r = counted r
+
+-- ---- none of them
+
+-- an event that is not left out is booked with all that it books; where it is refused, that is nothing
+whole : (accepts : Bool) (booked new : List Item) → (accepts ≡ false → new ≡ []) → one (accepts && not (fitting (booked ++ new))) ≡ 0
+    → bookedWith booked new ≡ booked ++ new
+unfolding bookedWith
+whole accepts booked new idle z = go accepts refl (fitting (booked ++ new)) refl
+  where
+    go : (a : Bool) → accepts ≡ a → (f : Bool) → fitting (booked ++ new) ≡ f → cond f (booked ++ new) booked ≡ booked ++ new
+    go a p true q = refl
+    go true p false q = absurd (omega (arith, z, ap₂ (λ (x y : Bool). one (x && not y)) p q))
+    go false p false q = sym (append-nil booked) ∙ ap (λ (l : List Item). booked ++ l) (sym (idle p))
+
+none-left-in : {u : Setup} {start : List ℕ} {t : Tally} {row : List ℕ} {o : OpenSession} {sessions : List Sitting} → Reported u start t row o sessions
+    → leftOf sessions ≡ 0 → ledger sessions ≡ allOf sessions
+unfolding ledger bookedBy allOf allBy leftOf leftBy booking
+none-left-in begun z = refl
+none-left-in (opens {sessions = sessions} r v q) z = none-left-in r (omega arith) ∙ sym (append-nil (allOf sessions))
+none-left-in (books {o = o} {s = s} {earlier = earlier} r e) z =
+    let a = step byPriority (o .session) e in
+    let new = booksOf (s .setup) (heard e a) (s .calls) in
+    whole (eqb (number (a .said)) 0) (ledger (s ∷ earlier)) new (booksEvent (s .setup) o (s .calls) (session r) e .idle) (omega arith)
+    ∙ ap (λ (l : List Item). l ++ new) (none-left-in r (omega arith))
+    ∙ append-assoc (allOf earlier) (allBy (s .setup) (s .calls)) new
+
+pub none-left : NoneLeft
+none-left u start t row o sessions r = none-left-in r
 
 -- ---- in 64 bits
 

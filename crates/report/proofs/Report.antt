@@ -48,7 +48,7 @@ fresh-underway v good = record {
   waited = λ i l. getD-replicate 64 i false false l;
 }
 
-session : {u : Setup} {start : List ℕ} {t : Tally} {row : List ℕ} {o : OpenSession} {s : Sitting} {earlier : List Sitting}
+pub session : {u : Setup} {start : List ℕ} {t : Tally} {row : List ℕ} {o : OpenSession} {s : Sitting} {earlier : List Sitting}
     → Reported u start t row o (s ∷ earlier) → Underway (s .setup) o (s .calls)
 unfolding booking
 session (opens {t = t} r v z) = rw (opening-is t v z) (fresh-underway v (opens-setup t v z))

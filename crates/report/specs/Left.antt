@@ -13,7 +13,7 @@ use Rattle.report.specs.declared.OpenSession.{OpenSession}
 use Rattle.report.specs.Items.{Item}
 use Rattle.report.specs.Booking.{booking}
 use Rattle.report.specs.Ledger.{booksOf, fitting, bookedBy, Sitting, ledger}
-use Rattle.report.specs.Report.{Reported, begun, opens, books, called}
+use Rattle.report.specs.Report.{Reported, begun, opens, books, called, InEveryReport}
 
 -- ---- over the list of sessions
 
@@ -28,6 +28,21 @@ unfoldable pub leftOf : List Sitting → ℕ
 unfolding leftBy ledger
 leftOf [] = 0
 leftOf (s ∷ earlier) = leftOf earlier + leftBy (s .setup) (ledger earlier) (s .calls)
+
+-- what the events of a list of sessions book, each of them
+unfoldable pub allBy : Setup → List Call → List Item
+unfolding booksOf
+allBy u [] = []
+allBy u (c ∷ before) = allBy u before ++ booksOf u c before
+
+unfoldable pub allOf : List Sitting → List Item
+unfolding allBy
+allOf [] = []
+allOf (s ∷ earlier) = allOf earlier ++ allBy (s .setup) (s .calls)
+
+-- where no event is left out, the figures are over all of it
+abbrev pub NoneLeft : Type 0
+NoneLeft = InEveryReport (λ start t row o sessions. leftOf sessions ≡ 0 → ledger sessions ≡ allOf sessions)
 
 -- ---- as the bookings go
 

@@ -6,6 +6,7 @@ use mathlib.Core.Bool.{Bool, true, false, _||_}
 use lib.Dec.{eqb}
 use lib.IntN.{ℤ, pos, negsuc}
 use lib.ListN.{length}
+use Rattle.outside.specs.declared.Log.{Log}
 use Rattle.outside.specs.declared.Sent.{Sent}
 
 -- a call that was interrupted (4), or that would have had to wait (11), is tried again
@@ -17,3 +18,8 @@ passing (negsuc error) = false
 pub record Written (bytes : List ℕ) (sent : Sent) : Type 0 where
   pub within : sent .taken ≤ length bytes
   pub whole : sent .whole ≡ eqb (sent .taken) (length bytes)
+
+-- standard input, which can be read as far as a call can say
+pub record StandardInput (log : Log) : Type 0 where
+  pub descriptor : log .fd ≡ pos 0
+  pub good : log .verdict ≡ 0

@@ -5,6 +5,7 @@ ghost use Prim.Native.Nat.{_-_, _≤_};
 ghost use lib.Dec.{leb};
 ghost use lib.ListN.{length};
 ghost use Rattle.io.specs.Counts.{Counts};
+ghost use Rattle.outside.specs.World.{StandardInput};
 use crate::Call;
 use crate::Log;
 use crate::Number;
@@ -61,7 +62,7 @@ pub fn called() -> Call
     }
 }
 
-// Says which word of a call is one too many. Of a long word the first bytes are said.
+// Says which word of a call is one too many. One that is too long for a name is left out.
 fn too_many(program: &[u8], i: usize) -> u8
     ensures { λ verdict. ⌜ verdict ≡ 2 ⌝ }
 {
@@ -85,7 +86,8 @@ pub fn few_enough(program: &[u8], c: Call, most: usize) -> u8
 
 // Standard input, whose name is `-`.
 fn input_log(name: &mut [u8]) -> Log
-    ensures { λ log. ⌜ Counts (log .size) (now (name .exit)) ⌝ }
+    ensures size { λ log. ⌜ Counts (log .size) (now (name .exit)) ⌝ }
+    ensures input { λ log. ⌜ StandardInput log ⌝ }
 {
     let mut size: usize = 0;
     if 0 < name.len() {
@@ -143,7 +145,8 @@ fn opened(program: &[u8], name: &[u8]) -> Log
 // The log that word i of a call names, with its name put into the lent bytes; standard input where the call has no such word. What is wrong is said, and then the
 // verdict is not 0.
 pub fn log_of(program: &[u8], c: Call, i: usize, name: &mut [u8]) -> Log
-    ensures { λ log. ⌜ Counts (log .size) (now (name .exit)) ⌝ }
+    ensures size { λ log. ⌜ Counts (log .size) (now (name .exit)) ⌝ }
+    ensures input { λ log. ⌜ (c .end ≤ i → StandardInput log) ⌝ }
 {
     if c.end <= i {
         return input_log(name);

@@ -1,4 +1,5 @@
 -- `outside::calls::input_log` meets its contract: its name is the first byte. Assumes nothing.
+use mathlib.Core.Path.{refl}
 use native.Mathlib.Omega.{arith}
 use lib.ListN.{set, length-set}
 use borrow.Author.Needs.{needs}
@@ -13,7 +14,8 @@ same-length : tie.Need-same-length
 same-length c = search needs
 
 returns : tie.Need-returns
-returns c = counts 1 (set (c .before .args .name .now) 0 45) (rw length-set (omega arith))
+returns c =
+    (counts 1 (set (c .before .args .name .now) 0 45) (rw length-set (omega arith)), record { descriptor = refl; good = refl })
 
 returns-2 : tie.Need-returns-2
 returns-2 c = search needs

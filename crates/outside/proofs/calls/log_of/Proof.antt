@@ -1,4 +1,5 @@
 -- `outside::calls::log_of` meets its contract: the name is as long as the word that was put. Assumes nothing.
+use mathlib.Core.Path.{refl}
 use native.Mathlib.Omega.{arith}
 use borrow.Author.Needs.{needs}
 use Rattle.io.proofs.Counting.{counts}
@@ -30,7 +31,7 @@ same-length-2 : tie.Need-same-length-2
 same-length-2 c = search needs
 
 returns-2 : tie.Need-returns-2
-returns-2 c = search needs
+returns-2 c = ((omega arith, refl), λ h. absurd (omega (arith, h)))
 
 slice-reshare-prefix-opened : tie.Need-slice-reshare-prefix-opened
 slice-reshare-prefix-opened c = search needs
@@ -47,7 +48,10 @@ same-length-3 c = search needs
 returns-3 : tie.Need-returns-3
 returns-3 c =
     let a = c .before .before .before .before .before .before .arg in
-    counts (c .opened .result .size) (a .last .1 .0) (omega (arith, c .opened .ensures, a .ensures .0, a .ensures .1))
+    (
+      counts (c .opened .result .size) (a .last .1 .0) (omega (arith, c .opened .ensures, a .ensures .0, a .ensures .1)),
+      λ h. absurd (omega (arith, h)),
+    )
 
 pub log-of-spec : {M : Type 1} → statement M
 log-of-spec =

@@ -47,8 +47,7 @@ same-length-3 c = search needs
 
 returns-3 : tie.Need-returns-3
 returns-3 c =
-    let a = c .before .before .before .before .before .before .arg in
-    (
+    let a = c .before .before .before .before .before .before .arg in (
       counts (c .opened .result .size) (a .last .1 .0) (omega (arith, c .opened .ensures, a .ensures .0, a .ensures .1)),
       λ h. absurd (omega (arith, h)),
     )

@@ -7,8 +7,8 @@ use Rattle.outside.proofs.tries.again.Tie as tie
 returns : tie.Need-returns
 returns c = interrupted (c .before .args .error) (c .before .fits .error) (c .if1 .taken)
 
-sched-yield-requires : tie.Need-sched-yield-requires
-sched-yield-requires c κs = search needs
+rest-requires : tie.Need-rest-requires
+rest-requires c κs = search needs
 
 returns-2 : tie.Need-returns-2
 returns-2 c = would-wait (c .before .before .before .args .error) (c .before .before .before .fits .error) (c .before .if2 .taken)
@@ -17,4 +17,4 @@ returns-3 : tie.Need-returns-3
 returns-3 c = final (c .before .before .args .error) (c .before .if1 .left) (c .if2 .left)
 
 pub again-spec : {M : Type 1} → statement M
-again-spec = tie.close (tie.spec returns sched-yield-requires returns-2 returns-3)
+again-spec = tie.close (tie.spec returns rest-requires returns-2 returns-3)

@@ -1,4 +1,3 @@
--- What the proofs share. Reading has the next record of a window, Turns what is done with it, and Runs takes a window turn by turn.
-pub mod Reading
+-- What the proofs share. Turns has what is done with the next record of a window, and Runs takes a window from a place on.
 pub mod Turns
 pub mod Runs

@@ -2,5 +2,4 @@
 pub mod Laws
 pub mod Windows
 pub mod Log
-pub mod Waits
 pub mod Season

@@ -1,6 +1,5 @@
--- A season of logs: the next record of a window, what is done with it, a window, windows one after another, a whole log, and logs one after another.
-pub mod Next
-pub mod Turn
+-- A season of logs: what is done with a record, a window, windows one after another, a whole log, and logs one after another.
+pub mod Program
 pub mod Window
 pub mod Windows
 pub mod Log

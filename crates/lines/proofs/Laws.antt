@@ -1,6 +1,4 @@
--- What the proofs share. Lines has what more bytes, before or after, leave of the lines; Turns says what a turn of a window tells of the lines of the log, and Runs
--- takes a window turn by turn.
+-- What the proofs share. Lines has the lines of the bytes that are left, Turns the record that the code takes, and Writing a run into a buffer.
 pub mod Lines
 pub mod Turns
-pub mod Runs
 pub mod Writing

@@ -3,4 +3,3 @@ pub mod Laws
 pub mod Whole
 pub mod Written
 pub mod Windows
-pub mod Waits

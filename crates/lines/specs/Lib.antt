@@ -1,7 +1,5 @@
--- The lines of a log: what a record gives, the whole log, one turn of a window, a window, and windows one after another.
-pub mod Records
+-- The lines of a log: what a record gives, the whole log, a window replayed into a buffer, and windows one after another.
+pub mod Program
 pub mod Whole
-pub mod Turn
-pub mod Window
 pub mod Replay
 pub mod Windows

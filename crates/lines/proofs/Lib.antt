@@ -3,3 +3,6 @@ pub mod Laws
 pub mod Whole
 pub mod Written
 pub mod Windows
+pub mod Sizes
+pub mod Answers
+pub mod Progress

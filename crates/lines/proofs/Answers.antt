@@ -1,18 +1,19 @@
 -- What is answered to an event is short: no number from 8 up, objects and tasks below 1,000, and at most sixteen admissions, with counts of 32 bits.
 use Prim.Native.Nat.{ℕ, zero, suc, _+_, _^_, _≤_, _<_, min}
-use mathlib.Core.Path.{_≡_, refl, sym, ap, _∙_}
-use mathlib.Core.Logic.{_≢_}
+use mathlib.Core.Path.{_≡_, refl, sym, ap, subst}
+use mathlib.Core.Logic.{_⊎_, inl, inr, _≢_}
 use mathlib.Core.List.{List, [], _∷_}
 use mathlib.Core.Bool.{Bool, true, false, cond, _&&_}
 use native.Mathlib.Omega.{arith}
 use lib.Dec.{eqb, leb, ltb}
-use lib.ListN.{length, take, getD, set, length-take}
+use lib.ListN.{length, take, getD, set, replicate, length-take}
 use lib.Seq.{getD-take}
 use borrow.Author.Tests.{eqb-true, eqb-false}
 use Rattle.objects.specs.Objects.{Sets, clash}
 use Rattle.objects.proofs.Laws.Below.{and-left, count-le, least-is}
 use Rattle.rules.specs.declared.State.{State}
 use Rattle.rules.specs.declared.State.the-variants.{Absent, Plain, Waiting, Executing}
+use Rattle.rules.specs.declared.Setup.{Setup}
 use Rattle.rules.specs.declared.Task.{Task}
 use Rattle.rules.specs.declared.Session.{Session}
 use Rattle.rules.specs.declared.Event.{Event}
@@ -22,16 +23,17 @@ use Rattle.rules.specs.declared.Admission.{Admission}
 use Rattle.rules.specs.declared.Answer.{Answer}
 use Rattle.rules.specs.Answers.{number, object, contested, whom}
 use Rattle.rules.specs.Ranking.{byPriority, foremost}
-use Rattle.rules.specs.Tasks.{isAbsent, isPlain, isExecuting, waitOf, noTask, taskAt, stateAt, waiting, setsAt, setsOf, known, allowed, inState, withTask, stamped}
+use Rattle.rules.specs.Tasks.{freshTask, isAbsent, isPlain, isExecuting, waitOf, noTask, taskAt, stateAt, waiting, setsAt, setsOf, known, allowed, inState, withTask, stamped}
+use Rattle.rules.specs.Setup.{termsAt, freshTasks, fresh, noSession}
 use Rattle.rules.specs.Room.{room, rankAt, ran}
 use Rattle.rules.specs.Contest.{blocked, clashing, contestedOn, lowestContested, contestedCount, highestClashing}
 use Rattle.rules.specs.Scan.{noAdmission, scan}
-use Rattle.rules.specs.Events.{trying, early, arriveNumber, releaseNumber, commitNumber, finishNumber, refused, still, scanning, arrive, releasedInto, begins, waitSaid, releaseAccepted, release, raisedState, raisedTask, raised, committed, commit, finished, finish, step}
+use Rattle.rules.specs.Events.{trying, early, arriveNumber, releaseNumber, commitNumber, finishNumber, refused, still, scanning, arrived, arrive, released, releasedInto, begins, waitSaid, releaseAccepted, release, raisedState, raisedTask, raised, committed, commit, finished, finish, step}
 use Rattle.rules.specs.Lines.{admissions}
 use Rattle.rules.proofs.Laws.Numbers.{must, allowed-bounds, timely}
 use Rattle.rules.proofs.Laws.Foremost.{foremost-found}
 use Rattle.rules.proofs.Laws.Listed.{scan-settled}
-use Rattle.rules.proofs.Laws.Scan.{scan-few}
+use Rattle.rules.proofs.Laws.Scan.{scan-kept, scan-few}
 use Rattle.rules.proofs.Laws.Steps.{step-cases, arrive-cases, release-cases, commit-cases, finish-cases}
 use Rattle.lines.proofs.Sizes.{SmallEntry}
 
@@ -109,10 +111,10 @@ number-few s e =
 
 -- ---- the counts of a wait
 
-abbrev Held : State → Type 0
+abbrev pub Held : State → Type 0
 Held state = (waitOf state .clashes < 2 ^ 32) × (waitOf state .retries < 2 ^ 32)
 
-abbrev HeldAll : List Task → Type 0
+abbrev pub HeldAll : List Task → Type 0
 HeldAll tasks = (j : ℕ) → Held (getD tasks j noTask .state)
 
 set-held : (tasks : List Task) (i : ℕ) (t : Task) → Held (t .state) → HeldAll tasks → HeldAll (set tasks i t)
@@ -235,3 +237,83 @@ module _ (s : Session) (e : Event) (all : HeldAll (s .tasks)) where
       (λ kind. release-cases Short s refuses (e .tick) (e .task) byPriority (e .reads) (e .writes) waits (λ z free. unlisted Run _ refl refl refl))
       (λ kind. commit-cases Short s refuses (e .tick) (e .task) byPriority commits)
       (λ kind. finish-cases Short s refuses (e .tick) (e .task) byPriority finishes)
+
+-- ---- the session after it
+
+-- the counts of its waits, and of the accepted events
+abbrev pub Keeps : Answer → Type 0
+Keeps a = HeldAll (a .session .tasks) × (a .session .accepted < 2 ^ 32)
+
+scan-keeps : (s : Session) → HeldAll (s .tasks) → s .accepted < 2 ^ 32
+    → HeldAll (scan byPriority s .session .tasks) × (scan byPriority s .session .accepted < 2 ^ 32)
+scan-keeps s all l =
+    let kept = scan-kept byPriority s in
+    (λ j. go j (kept .each j), rw (kept .accepted) l)
+  where
+    go : (j : ℕ) → (taskAt (scan byPriority s .session) j ≡ taskAt s j) ⊎ ((j < s .n) × (waiting s j ≡ true) × (taskAt (scan byPriority s .session) j ≡ inState (taskAt s j) Executing))
+        → Held (stateAt (scan byPriority s .session) j)
+    go j (inl e) = subst (λ (t : Task). Held (t .state)) (sym e) (all j)
+    go j (inr e) = subst (λ (t : Task). Held (t .state)) (sym (e .2)) (omega arith, omega arith)
+
+module _ (s : Session) (e : Event) (all : HeldAll (s .tasks)) (count : s .accepted < 2 ^ 32) where
+  arrives-keep : arriveNumber s (e .tick) (e .task) ≡ 0 → Keeps (still Ok (withTask (stamped s (e .tick)) (e .task) (arrived (taskAt s (e .task)) (e .tick))))
+  unfolding arriveNumber
+  arrives-keep z =
+      (set-held (s .tasks) (e .task) (arrived (taskAt s (e .task)) (e .tick)) (omega arith, omega arith) all, omega (arith, timely s (e .tick) (e .task) _ z .accepted))
+
+  releases-keep : (state : State) → Held state → releaseNumber byPriority s (e .tick) (e .task) ≡ 0 →
+      let s′ = releasedInto s (e .tick) (e .task) (e .reads) (e .writes) state in
+      HeldAll (s′ .tasks) × (s′ .accepted < 2 ^ 32)
+  unfolding releaseNumber
+  releases-keep state h z =
+      (set-held (s .tasks) (e .task) (released (taskAt s (e .task)) state) h all, omega (arith, timely s (e .tick) (e .task) _ z .accepted))
+
+  commits-keep : commitNumber s (e .tick) (e .task) ≡ 0 →
+      let s′ = committed byPriority s (e .tick) (e .task) in
+      HeldAll (s′ .tasks) × (s′ .accepted < 2 ^ 32)
+  unfolding commitNumber
+  commits-keep z = (
+    set-held (raised (ran byPriority s) s (setsAt s (e .task)) (s .n)) (e .task) (inState (taskAt s (e .task)) Plain) (omega arith, omega arith)
+        (raised-all (ran byPriority s) s (setsAt s (e .task)) (s .n) all),
+    omega (arith, timely s (e .tick) (e .task) _ z .accepted),
+  )
+
+  finishes-keep : finishNumber byPriority s (e .tick) (e .task) ≡ 0 →
+      let s′ = withTask (stamped s (e .tick)) (e .task) (finished (taskAt s (e .task))) in
+      HeldAll (s′ .tasks) × (s′ .accepted < 2 ^ 32)
+  unfolding finishNumber
+  finishes-keep z =
+      (set-held (s .tasks) (e .task) (finished (taskAt s (e .task))) (omega arith, omega arith) all, omega (arith, timely s (e .tick) (e .task) _ z .accepted))
+
+  pub step-keeps : Keeps (step byPriority s e)
+  step-keeps =
+      let refuses : (k : ℕ) → k ≢ 0 → Keeps (refused s k) = λ k n. (all, count) in
+      step-cases byPriority s e Keeps
+      (λ kind. arrive-cases Keeps s refuses (e .tick) (e .task) arrives-keep)
+      (λ kind. release-cases Keeps s refuses (e .tick) (e .task) byPriority (e .reads) (e .writes)
+      (λ z b.
+      let h = releases-keep (begins (e .tick)) (omega arith, omega arith) z in
+      scan-keeps (releasedInto s (e .tick) (e .task) (e .reads) (e .writes) (begins (e .tick))) (h .0) (h .1))
+      (λ z b. releases-keep Executing (omega arith, omega arith) z))
+      (λ kind. commit-cases Keeps s refuses (e .tick) (e .task) byPriority (λ z. let h = commits-keep z in scan-keeps (committed byPriority s (e .tick) (e .task)) (h .0) (h .1)))
+      (λ kind. finish-cases Keeps s refuses (e .tick) (e .task) byPriority (λ z. let h = finishes-keep z in scan-keeps (withTask (stamped s (e .tick)) (e .task) (finished (taskAt s (e .task)))) (h .0) (h .1)))
+
+-- ---- a session in which nothing has happened
+
+absent-held : (n : ℕ) → HeldAll (replicate n noTask)
+absent-held zero j = (omega arith, omega arith)
+absent-held (suc n) zero = (omega arith, omega arith)
+absent-held (suc n) (suc j) = absent-held n j
+
+fresh-tasks : (u : Setup) (k : ℕ) → HeldAll (freshTasks u k)
+unfolding freshTasks
+fresh-tasks u zero = absent-held 64
+fresh-tasks u (suc k) = set-held (freshTasks u k) k (freshTask (termsAt u k)) (omega arith, omega arith) (fresh-tasks u k)
+
+pub fresh-held : (u : Setup) → HeldAll (fresh u .tasks) × (fresh u .accepted < 2 ^ 32)
+unfolding fresh
+fresh-held u = (fresh-tasks u (u .n), omega arith)
+
+pub none-held : HeldAll (noSession .tasks) × (noSession .accepted < 2 ^ 32)
+unfolding noSession
+none-held = (absent-held 64, omega arith)

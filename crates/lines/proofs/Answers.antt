@@ -1,12 +1,12 @@
 -- What is answered to an event is short: no number from 8 up, objects and tasks below 1,000, and at most sixteen admissions, with counts of 32 bits.
-use Prim.Native.Nat.{ℕ, zero, suc, _+_, _^_, _≤_, _<_, min}
+use Prim.Native.Nat.{ℕ, zero, suc, _^_, _≤_, _<_}
 use mathlib.Core.Path.{_≡_, refl, sym, ap, subst}
 use mathlib.Core.Logic.{_⊎_, inl, inr, _≢_}
 use mathlib.Core.List.{List, [], _∷_}
 use mathlib.Core.Bool.{Bool, true, false, cond, _&&_}
 use native.Mathlib.Omega.{arith}
 use lib.Dec.{eqb, leb, ltb}
-use lib.ListN.{length, take, getD, set, replicate, length-take}
+use lib.ListN.{length, getD, set, replicate, length-take}
 use lib.Seq.{getD-take}
 use borrow.Author.Tests.{eqb-true, eqb-false}
 use Rattle.objects.specs.Objects.{Sets, clash}

@@ -15,9 +15,10 @@ use Rattle.rules.specs.Ranking.{byPriority}
 use Rattle.rules.specs.Setup.{setupNumber, fresh, noSession, start}
 use Rattle.rules.specs.Events.{step}
 use Rattle.rules.specs.History.{Call, heard}
-use Rattle.rules.specs.Demand3.{Run, begun, called, AdmissionsCount}
+use Rattle.rules.specs.Demand3.{Run, begun, called, AdmissionsCount, AdmissionsWithin}
 use Rattle.rules.proofs.Ranking.{priority-strict}
-use Rattle.rules.proofs.Demand3.{fresh-starts, once-running, held-back, waits-counted, admitted-counted, bounded, running-apart, as-told}
+use Rattle.rules.proofs.Demand3.{fresh-starts, once-running, held-back, waits-counted, admitted-counted, bounded, admitted-within, running-apart, as-told}
+use Rattle.rules.proofs.Ended.{waits-end}
 use Rattle.session.specs.Demand3.{Answered, arrives, releases, commits, finishes, steps, Calls, none, then, Holds, Demand3}
 
 answered : (s : Session) (e : Event) (answer : Answer) → Answered s e answer → answer ≡ step byPriority s e
@@ -63,6 +64,9 @@ demand3 u started p z s calls r =
           subst (λ (x : Answer). AdmissionsCount byPriority (fresh u) e x calls) (sym (answered s e answer a))
           (admitted-counted byPriority strict stays (fresh u) s calls begins whole e);
       sum = λ i l answer q. rw q (bounded byPriority strict stays (fresh u) s calls begins whole i l);
+      within = λ e answer a.
+          subst (λ (x : Answer). AdmissionsWithin e x calls) (sym (answered s e answer a)) (admitted-within byPriority strict stays (fresh u) s calls begins whole e);
+      ended = waits-end byPriority strict stays (fresh u) s calls begins whole;
       apart = running-apart byPriority strict stays (fresh u) s calls begins whole .0;
       few = running-apart byPriority strict stays (fresh u) s calls begins whole .1;
       told = as-told byPriority strict stays (fresh u) s calls begins whole;

@@ -4,6 +4,7 @@
 use Prim.Native.Nat.{ℕ, _≤_, _<_}
 use mathlib.Core.Path.{_≡_}
 use mathlib.Core.List.{List, [], _∷_}
+use mathlib.Core.Bool.{false}
 use Rattle.objects.specs.Below.{count}
 use Rattle.rules.specs.declared.Setup.{Setup}
 use Rattle.rules.specs.declared.Session.{Session}
@@ -14,13 +15,13 @@ use Rattle.rules.specs.declared.Started.{Started}
 use Rattle.rules.specs.declared.Summed.{Summed}
 use Rattle.rules.specs.Answers.{number}
 use Rattle.rules.specs.Ranking.{byPriority}
-use Rattle.rules.specs.Tasks.{executing}
+use Rattle.rules.specs.Tasks.{waiting, executing}
 use Rattle.rules.specs.Setup.{start}
 use Rattle.rules.specs.Events.{arrive, release, commit, finish, step}
 use Rattle.rules.specs.Sum.{summed}
 use Rattle.rules.specs.Cases.{plainEvent, releaseOf}
-use Rattle.rules.specs.History.{Call, heard, waitLength, passed}
-use Rattle.rules.specs.Demand3.{RunsOn, Held, WaitsCount, AdmissionsCount, Apart, Told}
+use Rattle.rules.specs.History.{Call, heard, lasted, admittedAt, waitLength, passed}
+use Rattle.rules.specs.Demand3.{RunsOn, Held, WaitsCount, AdmissionsCount, AdmissionsWithin, Apart, Told}
 
 -- an answer to a call of one of the functions, with the event that it was asked for
 pub data Answered (s : Session) : Event → Answer → Type 0 where
@@ -48,6 +49,10 @@ pub record Holds (from s : Session) (calls : List Call) : Type 0 where
   pub admissions : (e : Event) (answer : Answer) → Answered s e answer → AdmissionsCount byPriority from e answer calls
   -- and the clash count is at most the sum that the function answers for the wait's length
   pub sum : (i : ℕ) → i < s .n → (answer : Summed) → answer ≡ summed s i (waitLength i calls) → (answer .number ≡ 0) × (passed i calls ≤ answer .sum)
+  -- and so is that of each admission, for the wait that its call ends
+  pub within : (e : Event) (answer : Answer) → Answered s e answer → AdmissionsWithin e answer calls
+  -- a wait that ended has come to the tick of the call that admitted it
+  pub ended : (i : ℕ) → i < s .n → waiting s i ≡ false → lasted i calls ≡ admittedAt i calls
   -- no two running transactions clash, and at most m run
   pub apart : Apart s
   pub few : count (s .n) (executing s) ≤ s .m

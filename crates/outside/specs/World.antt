@@ -1,11 +1,11 @@
 -- Calls of the system: which are worth another try, and what is written out.
-use Prim.Native.Nat.{ℕ, _≤_}
+use Prim.Native.Nat.{ℕ, _≤_, min}
 use mathlib.Core.Path.{_≡_}
 use mathlib.Core.List.{List}
 use mathlib.Core.Bool.{Bool, true, false, _||_}
 use lib.Dec.{eqb}
 use lib.IntN.{ℤ, pos, negsuc}
-use lib.ListN.{length}
+use lib.ListN.{length, set}
 use Rattle.outside.specs.declared.Log.{Log}
 use Rattle.outside.specs.declared.Sent.{Sent}
 
@@ -19,7 +19,9 @@ pub record Written (bytes : List ℕ) (sent : Sent) : Type 0 where
   pub within : sent .taken ≤ length bytes
   pub whole : sent .whole ≡ eqb (sent .taken) (length bytes)
 
--- standard input, which can be read as far as a call can say
-pub record StandardInput (log : Log) : Type 0 where
+-- standard input, which can be read as far as a call can say; its name, `-`, stands at the front of the bytes that were lent for it, if there are any, and the others stay
+pub record StandardInput (before after : List ℕ) (log : Log) : Type 0 where
   pub descriptor : log .fd ≡ pos 0
   pub good : log .verdict ≡ 0
+  pub size : log .size ≡ min 1 (length before)
+  pub name : after ≡ set before 0 45

@@ -87,7 +87,7 @@ pub fn few_enough(program: &[u8], c: Call, most: usize) -> u8
 // Standard input, whose name is `-`.
 fn input_log(name: &mut [u8]) -> Log
     ensures size { λ log. ⌜ Counts (log .size) (now (name .exit)) ⌝ }
-    ensures input { λ log. ⌜ StandardInput log ⌝ }
+    ensures input { λ log. ⌜ StandardInput (now (name .entry)) (now (name .exit)) log ⌝ }
 {
     let mut size: usize = 0;
     if 0 < name.len() {
@@ -146,7 +146,7 @@ fn opened(program: &[u8], name: &[u8]) -> Log
 // verdict is not 0.
 pub fn log_of(program: &[u8], c: Call, i: usize, name: &mut [u8]) -> Log
     ensures size { λ log. ⌜ Counts (log .size) (now (name .exit)) ⌝ }
-    ensures input { λ log. ⌜ (c .end ≤ i → StandardInput log) ⌝ }
+    ensures input { λ log. ⌜ (c .end ≤ i → StandardInput (now (name .entry)) (now (name .exit)) log) ⌝ }
 {
     if c.end <= i {
         return input_log(name);

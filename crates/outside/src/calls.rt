@@ -30,7 +30,7 @@ fn names_verdict() -> bool {
 
 // How the program was called: `--verdict N` before its own words gives it the descriptor N for its verdict.
 pub fn called() -> Call
-    ensures { λ c. ⌜ c .first ≤ 3 ⌝ }
+    ensures { λ c. ⌜ c .first ≡ cond (c .given) 3 1 ⌝ }
 {
     let end = os::arg_count();
     let none = Call {

@@ -33,7 +33,8 @@ terms-good u (suc k) e i l = go (λ z. terms-good u k z i) (eqb (firstNumber u k
 
 -- ---- its tasks
 
-fresh-size : (u : Setup) (k : ℕ) → length (freshTasks u k) ≡ 64
+-- they are 64
+pub fresh-size : (u : Setup) (k : ℕ) → length (freshTasks u k) ≡ 64
 unfolding freshTasks
 fresh-size u zero = length-replicate 64 noTask
 fresh-size u (suc k) = length-set (freshTasks u k) k (freshTask (termsAt u k)) ∙ fresh-size u k

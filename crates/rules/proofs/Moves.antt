@@ -40,7 +40,7 @@ use Rattle.rules.proofs.Events.{plain-is, executing-is, arrive-timely, 
 -- ---- whom a commit raises
 
 -- those that wait and clash with it
-abbrev raises : Session → Sets → ℕ → Bool
+abbrev pub raises : Session → Sets → ℕ → Bool
 raises s x j = waiting s j && clash x (setsAt s j)
 
 module _ (hadRun : ℕ → Bool) (s : Session) (x : Sets) where
@@ -57,7 +57,7 @@ module _ (hadRun : ℕ → Bool) (s : Session) (x : Sets) where
       go ih true = getD-set-other row k j (up hadRun s k) noTask (ne-of-gt h) ∙ ih
       go ih false = ih
 
-  raised-below : (k j : ℕ) → k ≤ length (s .tasks) → j < k → getD (raised hadRun s x k) j noTask ≡ cond (raises s x j) (up hadRun s j) (taskAt s j)
+  pub raised-below : (k j : ℕ) → k ≤ length (s .tasks) → j < k → getD (raised hadRun s x k) j noTask ≡ cond (raises s x j) (up hadRun s j) (taskAt s j)
   unfolding raised
   raised-below zero j h l = absurd (not-suc-le-zero l)
   raised-below (suc k) j h l = go (below-suc j k l) (raised-below k j (omega arith)) (raises s x k) refl

@@ -7,7 +7,6 @@ use mathlib.Core.Bool.{Bool, true, false, cond, _&&_, and-false}
 use native.Mathlib.Nat.{le-of-eq, le-trans}
 use native.Mathlib.Omega.{arith}
 use lib.Dec.{eqb}
-use lib.ListN.{getD, replicate, getD-replicate, length-replicate, List·getD-eq-default}
 use borrow.Author.Tests.{le-ltb, eq-eqb}
 use Rattle.objects.proofs.Laws.Below.{below-or-from, sum-zero}
 use Rattle.rules.specs.declared.Task.{Task}
@@ -23,6 +22,7 @@ use Rattle.rules.specs.Setup.{setupNumber, fresh, noSession, start, NoSe
 use Rattle.rules.specs.Events.{trying, arriveNumber, releaseNumber, commitNumber, finishNumber, refused, arrive, release, commit, finish}
 use Rattle.rules.specs.Sum.{share, bound, summed, BadTaskSum, AloneSum}
 use Rattle.rules.specs.Reachable.{RefusedBy1, BadTask, NoSessionAnswers}
+use Rattle.rules.proofs.Laws.Rows.{filled-with}
 use Rattle.rules.proofs.Laws.Steps.{step-cases}
 
 unknown : (s : Session) (i : ℕ) → s .n ≤ i → known s i ≡ false
@@ -87,16 +87,9 @@ alone-sum s i length one = go (below-or-from i (s .n))
 
 -- ---- what a refused setup gives
 
-none-absent : (i : ℕ) → getD (replicate 64 noTask) i noTask ≡ noTask
-none-absent i = go (below-or-from i 64)
-  where
-    go : (i < 64) ⊎ (64 ≤ i) → getD (replicate 64 noTask) i noTask ≡ noTask
-    go (inl l) = getD-replicate 64 i noTask noTask l
-    go (inr l) = List·getD-eq-default (replicate 64 noTask) noTask (le-trans (le-of-eq (length-replicate 64 noTask)) l)
-
 pub no-session-plain : NoSessionPlain
 unfolding noSession
-no-session-plain = record { m = refl; n = refl; absent = λ i. ap (λ (t : Task). t .state) (none-absent i) }
+no-session-plain = record { m = refl; n = refl; absent = λ i. ap (λ (t : Task). t .state) (filled-with 64 i noTask) }
 
 pub refused-start : RefusedStart
 unfolding start

@@ -32,7 +32,8 @@ use Rattle.rules.proofs.Laws.Scan.{Counted, admit-counted}
 
 -- ---- one more name
 
-tasks-more : (xs : List Admission) (a : Admission) → tasksOf (xs ++ (a ∷ [])) ≡ tasksOf xs ++ (a .task ∷ [])
+-- the tasks of a list with one admission more
+pub tasks-more : (xs : List Admission) (a : Admission) → tasksOf (xs ++ (a ∷ [])) ≡ tasksOf xs ++ (a .task ∷ [])
 unfolding tasksOf
 tasks-more [] a = refl
 tasks-more (x ∷ xs) a = ap (λ (more : List ℕ). x .task ∷ more) (tasks-more xs a)

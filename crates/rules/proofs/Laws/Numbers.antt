@@ -35,6 +35,7 @@ allowed-bounds most k e = (leb-true 1 k (and-left (leb 1 k) (leb k most) e), leb
 
 -- what is known of an event that no number from 1 to 3 refuses
 pub record Timely (s : Session) (at i rest : ℕ) : Type 0 where
+  pub m-high : s .m ≤ 16
   pub n-high : s .n ≤ 64
   pub below : i < s .n
   pub tick : s .tick ≤ at
@@ -48,8 +49,10 @@ timely s at i rest e =
     let r = must-not (leb 1000000 (s .accepted)) rest 3 (omega arith) (q .1) in
     let k = leb-false 1000000 (s .accepted) (r .0) in
     let sizes = allowed 16 (s .m) && allowed 64 (s .n) in
+    let good = and-left sizes (ltb i (s .n)) (p .0) in
     record {
-      n-high = allowed-bounds 64 (s .n) (and-right (allowed 16 (s .m)) (allowed 64 (s .n)) (and-left sizes (ltb i (s .n)) (p .0))) .1;
+      m-high = allowed-bounds 16 (s .m) (and-left (allowed 16 (s .m)) (allowed 64 (s .n)) good) .1;
+      n-high = allowed-bounds 64 (s .n) (and-right (allowed 16 (s .m)) (allowed 64 (s .n)) good) .1;
       below = ltb-true i (s .n) (and-right sizes (ltb i (s .n)) (p .0));
       tick = ltb-false at (s .tick) (q .0);
       accepted = omega arith;

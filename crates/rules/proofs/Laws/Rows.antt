@@ -1,12 +1,12 @@
 -- The sets of the tasks in their rows of words: four words replaced are the new ones at their own task and no other anywhere else. And a clash goes by the
 -- four groups alone, so sets that agree on them clash alike.
-use Prim.Native.Nat.{ℕ, zero, suc, _+_, _*_, _/_, _%_, _<_}
+use Prim.Native.Nat.{ℕ, zero, suc, _+_, _*_, _/_, _%_, _≤_, _<_}
 use mathlib.Core.Path.{_≡_, refl, sym, ap, _∙_}
 use mathlib.Core.Logic.{_≢_}
 use mathlib.Core.List.{List}
 use native.Mathlib.Nat.{add-zero}
 use native.Mathlib.Omega.{arith}
-use lib.ListN.{length, getD, set, length-set}
+use lib.ListN.{length, getD, set, replicate, length-set}
 use lib.Seq.{getD-set-same, getD-set-other}
 use Rattle.objects.specs.Below.{any}
 use Rattle.objects.specs.Objects.{Groups, Sets, bit, has, clashOn, clash}
@@ -15,42 +15,67 @@ use Rattle.rules.specs.Tasks.{withGroups}
 
 -- ---- rows
 
-pub groups-length : (row : List ℕ) (i : ℕ) (words : List ℕ) → length (withGroups row i words) ≡ length row
-groups-length row i words = simp length-set
+-- a row of one value has it at every place, and past its end
+pub filled-with : {A : Type 0} (n k : ℕ) (x : A) → getD (replicate n x) k x ≡ x
+filled-with zero k x = refl
+filled-with (suc n) zero x = refl
+filled-with (suc n) (suc k) x = filled-with n k x
 
-module _ (row : List ℕ) (i : ℕ) (words : List ℕ) where
+-- four words put beside each other, from a place on
+abbrev pub fourFrom : List ℕ → ℕ → List ℕ → List ℕ
+fourFrom row at words =
+    set (set (set (set row at (getD words 0 0)) (at + 1) (getD words 1 0)) (at + 2) (getD words 2 0)) (at + 3) (getD words 3 0)
+
+module _ (row : List ℕ) (at : ℕ) (words : List ℕ) where
   abbrev one-word : List ℕ
-  one-word = set row (i * 4) (getD words 0 0)
+  one-word = set row at (getD words 0 0)
 
   abbrev two-words : List ℕ
-  two-words = set one-word (i * 4 + 1) (getD words 1 0)
+  two-words = set one-word (at + 1) (getD words 1 0)
 
   abbrev three-words : List ℕ
-  three-words = set two-words (i * 4 + 2) (getD words 2 0)
+  three-words = set two-words (at + 2) (getD words 2 0)
+
+  -- the row stays as long
+  pub four-length : length (fourFrom row at words) ≡ length row
+  four-length = simp length-set
+
+  -- a place that is none of the four is as it was
+  pub four-kept : (q : ℕ) → ((g : ℕ) → g < 4 → at + g ≢ q) → getD (fourFrom row at words) q 0 ≡ getD row q 0
+  four-kept q apart =
+      getD-set-other three-words (at + 3) q (getD words 3 0) 0 (λ e. apart 3 (omega arith) (sym e))
+      ∙ getD-set-other two-words (at + 2) q (getD words 2 0) 0 (λ e. apart 2 (omega arith) (sym e))
+      ∙ getD-set-other one-word (at + 1) q (getD words 1 0) 0 (λ e. apart 1 (omega arith) (sym e))
+      ∙ getD-set-other row at q (getD words 0 0) 0 (λ e. apart 0 (omega arith) (omega arith))
+
+  -- the four have the words
+  pub four-put : (g : ℕ) → at + 4 ≤ length row → g < 4 → getD (fourFrom row at words) (at + g) 0 ≡ getD words g 0
+  four-put zero size l =
+      ap (λ (k : ℕ). getD (fourFrom row at words) k 0) (add-zero at)
+      ∙ getD-set-other three-words (at + 3) at (getD words 3 0) 0 (omega arith)
+      ∙ getD-set-other two-words (at + 2) at (getD words 2 0) 0 (omega arith)
+      ∙ getD-set-other one-word (at + 1) at (getD words 1 0) 0 (omega arith)
+      ∙ getD-set-same row at (getD words 0 0) 0 (omega arith)
+  four-put (suc zero) size l =
+      getD-set-other three-words (at + 3) (at + 1) (getD words 3 0) 0 (omega arith)
+      ∙ getD-set-other two-words (at + 2) (at + 1) (getD words 2 0) 0 (omega arith)
+      ∙ getD-set-same one-word (at + 1) (getD words 1 0) 0 (simp length-set (omega arith))
+  four-put (suc (suc zero)) size l =
+      getD-set-other three-words (at + 3) (at + 2) (getD words 3 0) 0 (omega arith)
+      ∙ getD-set-same two-words (at + 2) (getD words 2 0) 0 (simp length-set (omega arith))
+  four-put (suc (suc (suc zero))) size l = getD-set-same three-words (at + 3) (getD words 3 0) 0 (simp length-set (omega arith))
+  four-put (suc (suc (suc (suc g)))) size l = absurd (omega arith)
+
+-- those of task i
+module _ (row : List ℕ) (i : ℕ) (words : List ℕ) where
+  pub groups-length : length (withGroups row i words) ≡ length row
+  groups-length = four-length row (i * 4) words
 
   pub groups-other : (j g : ℕ) → j ≢ i → g < 4 → getD (withGroups row i words) (j * 4 + g) 0 ≡ getD row (j * 4 + g) 0
-  groups-other j g d l =
-      getD-set-other three-words (i * 4 + 3) (j * 4 + g) (getD words 3 0) 0 (omega arith)
-      ∙ getD-set-other two-words (i * 4 + 2) (j * 4 + g) (getD words 2 0) 0 (omega arith)
-      ∙ getD-set-other one-word (i * 4 + 1) (j * 4 + g) (getD words 1 0) 0 (omega arith)
-      ∙ getD-set-other row (i * 4) (j * 4 + g) (getD words 0 0) 0 (omega arith)
+  groups-other j g d l = four-kept row (i * 4) words (j * 4 + g) (λ h m. omega arith)
 
   pub groups-same : (g : ℕ) → length row ≡ 256 → i < 64 → g < 4 → getD (withGroups row i words) (i * 4 + g) 0 ≡ getD words g 0
-  groups-same zero size li lg =
-      ap (λ (k : ℕ). getD (withGroups row i words) k 0) (add-zero (i * 4))
-      ∙ getD-set-other three-words (i * 4 + 3) (i * 4) (getD words 3 0) 0 (omega arith)
-      ∙ getD-set-other two-words (i * 4 + 2) (i * 4) (getD words 2 0) 0 (omega arith)
-      ∙ getD-set-other one-word (i * 4 + 1) (i * 4) (getD words 1 0) 0 (omega arith)
-      ∙ getD-set-same row (i * 4) (getD words 0 0) 0 (omega arith)
-  groups-same (suc zero) size li lg =
-      getD-set-other three-words (i * 4 + 3) (i * 4 + 1) (getD words 3 0) 0 (omega arith)
-      ∙ getD-set-other two-words (i * 4 + 2) (i * 4 + 1) (getD words 2 0) 0 (omega arith)
-      ∙ getD-set-same one-word (i * 4 + 1) (getD words 1 0) 0 (simp length-set (omega arith))
-  groups-same (suc (suc zero)) size li lg =
-      getD-set-other three-words (i * 4 + 3) (i * 4 + 2) (getD words 3 0) 0 (omega arith)
-      ∙ getD-set-same two-words (i * 4 + 2) (getD words 2 0) 0 (simp length-set (omega arith))
-  groups-same (suc (suc (suc zero))) size li lg = getD-set-same three-words (i * 4 + 3) (getD words 3 0) 0 (simp length-set (omega arith))
-  groups-same (suc (suc (suc (suc g)))) size li lg = absurd (omega arith)
+  groups-same g size li l = four-put row (i * 4) words g (omega arith) l
 
 -- ---- clashes
 

@@ -1,0 +1,4 @@
+-- The laws that the functions of this crate rest on, and those of the crates below: Tasks is a task's number, which counts mod 64, and how many tasks a loop passes; Row
+-- carries the loop that puts a wait into the row.
+pub mod Tasks
+pub mod Row

@@ -1,0 +1,2 @@
+-- What the private functions of the searches go by.
+pub mod Groups

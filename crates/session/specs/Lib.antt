@@ -1,3 +1,3 @@
--- What the private functions compute, and demand 3 of what the public ones return. The public ones go by the definitions of rules.
-pub mod Events
+-- What the calls by value read off the machine's list, and demand 3 of what they return.
+pub mod Listed
 pub mod Demand3

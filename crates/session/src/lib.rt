@@ -1,15 +1,13 @@
-// The manager: a session goes in by value and comes back in the answer, and every answer is the one that the rules give.
+// The manager by value: a session goes in and comes back in the answer, and every answer is the one that the rules give. The session to begin with is of the crate setup;
+// the events are those of the crate manager, in place.
 //
-// Read in this order: step (the four events), then scan and rows below them, and the sum. The session to begin with is of the crate setup; what the events ask of the
-// tasks is of the crate search.
-mod events;
-mod rows;
-mod scan;
+// Read in this order: by_value (the calls), then total (the sum).
+mod by_value;
 mod total;
 
-pub use events::arrive;
-pub use events::commit;
-pub use events::finish;
-pub use events::release;
-pub use events::step;
+pub use by_value::arrive;
+pub use by_value::commit;
+pub use by_value::finish;
+pub use by_value::release;
+pub use by_value::step;
 pub use total::sum;

@@ -3,16 +3,17 @@
 use Prim.Native.Nat.{ℕ, _+_, _*_, _-_, _≤_}
 use mathlib.Core.Path.{_≡_, sym, ap, _∙_}
 use mathlib.Core.Logic.{⊎-elim}
-use mathlib.Core.Bool.{true}
+use mathlib.Core.Bool.{true, _&&_}
+use lib.Dec.{ltb}
 use native.Mathlib.Omega.{arith}
 use borrow.Author.Needs.{needs}
 use borrow.Author.Tests.{not-true, not-false}
 use Rattle.objects.specs.Below.{sum}
-use Rattle.objects.proofs.Laws.Below.{sum-empty}
-use Rattle.rules.specs.Tasks.{taskAt, known}
+use Rattle.objects.proofs.Laws.Below.{sum-empty, and-left, and-right}
+use Rattle.rules.specs.Tasks.{taskAt, allowed, known}
 use Rattle.rules.specs.Sum.{bound, summed, share}
-use Rattle.session.proofs.Laws.Numbers.{bounds}
-use Rattle.session.proofs.Laws.Given.{few-transactions}
+use Rattle.rules.proofs.Laws.Numbers.{allowed-bounds}
+use Rattle.session.proofs.Laws.Given.{session-fits}
 use Rattle.session.proofs.Laws.Total.{share-most, others, more-other, more-own}
 use Rattle.session.proofs.total.sum.Statement.{statement}
 use Rattle.session.proofs.total.sum.Tie as tie
@@ -28,12 +29,15 @@ is-known : (c : tie.Else1 Inv-loop μ-loop) → let a = c .before .before .args 
 is-known c = sym (c .before .known .ensures) ∙ not-false (c .before .known .result) (c .if1 .left)
 
 within : (c : tie.Else1 Inv-loop μ-loop) → c .before .before .args .t1 .n ≤ 64
-within c = let a = c .before .before .args in bounds (a .t1) (a .task) (is-known c) .n-high
+within c =
+    let s = c .before .before .args .t1 in
+    let sizes = and-left (allowed 16 (s .m) && allowed 64 (s .n)) (ltb (c .before .before .args .task) (s .n)) (is-known c) in
+    allowed-bounds 64 (s .n) (and-right (allowed 16 (s .m)) (allowed 64 (s .n)) sizes) .1
 
 -- no task's share is larger than the largest
 share-small : (c : tie.Start Inv-loop μ-loop) (j : ℕ) → share (c .args .length) (taskAt (c .args .t1) j .terms) ≤ 1095216660735
 share-small c j =
-    share-most (c .args .length) (taskAt (c .args .t1) j .terms) (c .fits .length .fits) (few-transactions (c .args .t1) _ (c .good .0) j)
+    share-most (c .args .length) (taskAt (c .args .t1) j .terms) (c .fits .length .fits) (session-fits (c .args .t1) _ (c .good .0) .transactions j)
 
 known-requires : tie.Need-known-requires Inv-loop μ-loop
 known-requires c κs = search needs

@@ -1,16 +1,15 @@
--- What is answered to an event is short: no number from 8 up, objects and tasks below 1,000, and at most sixteen admissions, with counts of 32 bits.
+-- What the rules list for an event fits its places: each admission is of a task below 256 and has counts of 32 bits; and so have the waits of the session after it,
+-- whatever the ticks are.
 use Prim.Native.Nat.{ℕ, zero, suc, _^_, _≤_, _<_}
-use mathlib.Core.Path.{_≡_, refl, sym, ap, subst}
+use mathlib.Core.Path.{_≡_, sym, ap, subst}
 use mathlib.Core.Logic.{_⊎_, inl, inr, _≢_}
 use mathlib.Core.List.{List, [], _∷_}
 use mathlib.Core.Bool.{Bool, true, false, cond, _&&_}
 use native.Mathlib.Omega.{arith}
-use lib.Dec.{eqb, leb, ltb}
-use lib.ListN.{length, getD, set, replicate, length-take}
-use lib.Seq.{getD-take}
-use borrow.Author.Tests.{eqb-true, eqb-false}
+use lib.Dec.{leb, ltb}
+use lib.ListN.{getD, set, replicate}
 use Rattle.objects.specs.Objects.{Sets, clash}
-use Rattle.objects.proofs.Laws.Below.{and-left, count-le, least-is}
+use Rattle.objects.proofs.Laws.Below.{and-left}
 use Rattle.rules.specs.declared.State.{State}
 use Rattle.rules.specs.declared.State.the-variants.{Absent, Plain, Waiting, Executing}
 use Rattle.rules.specs.declared.Setup.{Setup}
@@ -18,96 +17,22 @@ use Rattle.rules.specs.declared.Task.{Task}
 use Rattle.rules.specs.declared.Session.{Session}
 use Rattle.rules.specs.declared.Event.{Event}
 use Rattle.rules.specs.declared.Said.{Said}
-use Rattle.rules.specs.declared.Said.the-variants.{Ok, Run}
+use Rattle.rules.specs.declared.Said.the-variants.{Ok}
 use Rattle.rules.specs.declared.Admission.{Admission}
 use Rattle.rules.specs.declared.Answer.{Answer}
-use Rattle.rules.specs.Answers.{number, object, contested, whom}
-use Rattle.rules.specs.Ranking.{byPriority, foremost}
-use Rattle.rules.specs.Tasks.{freshTask, isAbsent, isPlain, isExecuting, waitOf, noTask, taskAt, stateAt, waiting, setsAt, setsOf, known, allowed, inState, withTask, stamped}
+use Rattle.rules.specs.Ranking.{byPriority}
+use Rattle.rules.specs.Tasks.{freshTask, waitOf, noTask, taskAt, stateAt, waiting, setsAt, setsOf, known, allowed, inState, withTask, stamped}
 use Rattle.rules.specs.Setup.{termsAt, freshTasks, fresh, noSession}
-use Rattle.rules.specs.Room.{room, rankAt, ran}
-use Rattle.rules.specs.Contest.{blocked, clashing, contestedOn, lowestContested, contestedCount, highestClashing}
-use Rattle.rules.specs.Scan.{noAdmission, scan}
-use Rattle.rules.specs.Events.{trying, early, arriveNumber, releaseNumber, commitNumber, finishNumber, refused, still, scanning, arrived, arrive, released, releasedInto, begins, waitSaid, releaseAccepted, release, raisedState, raisedTask, raised, committed, commit, finished, finish, step}
-use Rattle.rules.specs.Lines.{admissions}
+use Rattle.rules.specs.Room.{ran}
+use Rattle.rules.specs.Contest.{blocked}
+use Rattle.rules.specs.Scan.{scan}
+use Rattle.rules.specs.Listed.{admissionAt}
+use Rattle.rules.specs.Events.{trying, arriveNumber, releaseNumber, commitNumber, finishNumber, refused, still, scanning, arrived, released, releasedInto, begins, waitSaid, raisedState, raisedTask, raised, committed, finished, step}
 use Rattle.rules.proofs.Laws.Numbers.{must, allowed-bounds, timely}
-use Rattle.rules.proofs.Laws.Foremost.{foremost-found}
-use Rattle.rules.proofs.Laws.Listed.{scan-settled}
-use Rattle.rules.proofs.Laws.Scan.{scan-kept, scan-few}
+use Rattle.rules.proofs.Laws.Listed.{Entry, scan-settled}
+use Rattle.rules.proofs.Laws.Scan.{scan-kept}
 use Rattle.rules.proofs.Laws.Steps.{step-cases, arrive-cases, release-cases, commit-cases, finish-cases}
 use Rattle.lines.proofs.Sizes.{SmallEntry}
-
--- ---- the number
-
-module _ (s : Session) (tick i : ℕ) where
-  trying-few : (rest : ℕ) → rest ≤ 7 → trying s tick i rest ≤ 7
-  trying-few rest l = go (known s i) (ltb tick (s .tick)) (leb 1000000 (s .accepted))
-    where
-      go : (a b c : Bool) → cond a (cond b 2 (cond c 3 rest)) 1 ≤ 7
-      go true true c = omega arith
-      go true false true = omega arith
-      go true false false = l
-      go false b c = omega arith
-
-  -- accepted where the number is 0, else refused with it
-  by-number : (k : ℕ) (accepts : Answer) → k ≤ 7 → number (accepts .said) ≤ 7 → number (cond (eqb k 0) accepts (refused s k) .said) ≤ 7
-  by-number k accepts l m = go (eqb k 0)
-    where
-      go : (b : Bool) → number (cond b accepts (refused s k) .said) ≤ 7
-      go true = m
-      go false = l
-
-  arrive-few : number (arrive s tick i .said) ≤ 7
-  unfolding arrive arriveNumber
-  arrive-few = by-number (arriveNumber s tick i) _ (trying-few _ (go (isAbsent (stateAt s i)) (early (taskAt s i .arrival) (taskAt s i .terms .period) tick))) (omega arith)
-    where
-      go : (a b : Bool) → cond a (cond b 5 0) 4 ≤ 7
-      go true true = omega arith
-      go true false = omega arith
-      go false b = omega arith
-
-  release-few : (reads writes : List ℕ) → number (release byPriority s tick i reads writes .said) ≤ 7
-  unfolding release releaseNumber releaseAccepted
-  release-few reads writes =
-      by-number (releaseNumber byPriority s tick i) _
-      (trying-few _ (go (isPlain (stateAt s i)) (room byPriority s i) (ltb (taskAt s i .releases) (taskAt s i .terms .transactions))))
-      (accepted (blocked s (setsOf reads writes)))
-    where
-      go : (a b c : Bool) → cond a (cond b (cond c 0 7) 6) 4 ≤ 7
-      go true true true = omega arith
-      go true true false = omega arith
-      go true false c = omega arith
-      go false b c = omega arith
-
-      accepted : (b : Bool)
-          → number
-          (cond b (scanning byPriority (waitSaid byPriority s (setsOf reads writes)) (releasedInto s tick i reads writes (begins tick)))
-          (still Run (releasedInto s tick i reads writes Executing)) .said)
-          ≤ 7
-      accepted true = omega arith
-      accepted false = omega arith
-
-  commit-few : number (commit byPriority s tick i .said) ≤ 7
-  unfolding commit commitNumber
-  commit-few = by-number (commitNumber s tick i) _ (trying-few _ (go (isExecuting (stateAt s i)))) (omega arith)
-    where
-      go : (a : Bool) → cond a 0 4 ≤ 7
-      go true = omega arith
-      go false = omega arith
-
-  finish-few : number (finish byPriority s tick i .said) ≤ 7
-  unfolding finish finishNumber
-  finish-few = by-number (finishNumber byPriority s tick i) _ (trying-few _ (go (isPlain (stateAt s i)) (room byPriority s i))) (omega arith)
-    where
-      go : (a b : Bool) → cond a (cond b 0 6) 4 ≤ 7
-      go true true = omega arith
-      go true false = omega arith
-      go false b = omega arith
-
-pub number-few : (s : Session) (e : Event) → number (step byPriority s e .said) ≤ 7
-number-few s e =
-    step-cases byPriority s e (λ a. number (a .said) ≤ 7) (λ kind. arrive-few s (e .tick) (e .task)) (λ kind. release-few s (e .tick) (e .task) (e .reads) (e .writes))
-    (λ kind. commit-few s (e .tick) (e .task)) (λ kind. finish-few s (e .tick) (e .task))
 
 -- ---- the counts of a wait
 
@@ -140,38 +65,23 @@ raised-all hadRun s x (suc k) all = go (waiting s k && clash x (setsAt s k)) (ra
     go true rest = set-held (raised hadRun s x k) k (raisedTask (hadRun k) (taskAt s k)) (raised-held (hadRun k) (stateAt s k) (all k)) rest
     go false rest = rest
 
--- ---- what else is said, and the admissions
+-- ---- the admissions
 
-pub record Short (a : Answer) : Type 0 where
-  pub object : object (a .said) < 1000
-  pub contested : contested (a .said) < 1000
-  pub whom : whom (a .said) < 1000
-  pub few : length (admissions (a .admitted)) ≤ 16
-  pub each : (k : ℕ) → k < length (admissions (a .admitted)) → SmallEntry (getD (admissions (a .admitted)) k noAdmission)
+-- the numbers of those that are listed fit their places
+abbrev pub Entries : Answer → Type 0
+Entries a = (k : ℕ) → k < a .admitted .count → SmallEntry (admissionAt (a .admitted) k)
 
--- with no admission
-unlisted : (said : Said) (s : Session) → object said ≡ 0 → contested said ≡ 0 → whom said ≡ 0 → Short (still said s)
-unlisted said s a b c = record { object = omega arith; contested = omega arith; whom = omega arith; few = omega arith; each = λ k l. absurd (omega arith) }
-
-scanned : (said : Said) (s : Session) → s .m ≤ 16 → s .n ≤ 64 → HeldAll (s .tasks) → object said < 1000 → contested said < 1000 → whom said < 1000
-    → Short (scanning byPriority said s)
-scanned said s m n all a b c =
-    let x = scan byPriority s .admitted in
-    let count : x .count ≤ 16 = omega (arith, scan-few byPriority s) in
-    record { object = a; contested = b; whom = c; few = omega (arith, length-take (x .count) (x .list)); each = entry }
+scanned : (said : Said) (s : Session) → s .m ≤ 16 → s .n ≤ 64 → HeldAll (s .tasks) → Entries (scanning byPriority said s)
+scanned said s m n all = λ k l. entry k (scan-settled byPriority s m .entries k l)
   where
-    entry : (k : ℕ) → k < length (admissions (scan byPriority s .admitted)) → SmallEntry (getD (admissions (scan byPriority s .admitted)) k noAdmission)
-    entry k l =
-        let x = scan byPriority s .admitted in
-        let inside : k < x .count = omega (arith, length-take (x .count) (x .list)) in
-        let e = scan-settled byPriority s m .entries k inside in
-        let new = getD (x .list) k noAdmission in
-        rw (getD-take (x .count) (x .list) k noAdmission inside)
-        (record {
+    entry : (k : ℕ) → Entry s (admissionAt (scan byPriority s .admitted) k) → SmallEntry (admissionAt (scan byPriority s .admitted) k)
+    entry k e =
+        let new = admissionAt (scan byPriority s .admitted) k in
+        record {
           task = omega (arith, e .0);
           clashes = rw (ap (λ (y : Admission). y .clashes) (e .2)) (all (new .task) .0);
           retries = rw (ap (λ (y : Admission). y .retries) (e .2)) (all (new .task) .1);
-        })
+        }
 
 -- an event that is not refused has an allowed m
 allowed-m : (s : Session) (tick i rest : ℕ) → trying s tick i rest ≡ 0 → s .m ≤ 16
@@ -179,64 +89,38 @@ allowed-m s tick i rest z =
     let p = must (known s i) (cond (ltb tick (s .tick)) 2 (cond (leb 1000000 (s .accepted)) 3 rest)) 1 (omega arith) z in
     allowed-bounds 16 (s .m) (and-left (allowed 16 (s .m)) (allowed 64 (s .n)) (and-left (allowed 16 (s .m) && allowed 64 (s .n)) (ltb i (s .n)) (p .0))) .1
 
--- what a wait is for
-foremost-small : (k : ℕ) (f : ℕ → Bool) (r : ℕ → ℕ) → k ≤ 64 → foremost k f r < 1000
-foremost-small k f r l = go (eqb (foremost k f r) 64) refl
-  where
-    go : (b : Bool) → eqb (foremost k f r) 64 ≡ b → foremost k f r < 1000
-    go true e = omega (arith, eqb-true (foremost k f r) 64 e)
-    go false e = omega (arith, foremost-found k f r (eqb-false (foremost k f r) 64 e) .0)
-
-below : (n : ℕ) → n ≤ 256 → n < 1000
-below n l = omega arith
-
-module _ (s : Session) (x : Sets) where
-  lowest-small : lowestContested s x < 1000
-  unfolding lowestContested
-  lowest-small = below (lowestContested s x) (least-is 256 (contestedOn s x) .bound)
-
-  count-small : contestedCount s x < 1000
-  unfolding contestedCount
-  count-small = below (contestedCount s x) (count-le 256 (contestedOn s x))
-
-  whom-small : s .n ≤ 64 → highestClashing byPriority s x < 1000
-  unfolding highestClashing
-  whom-small l = foremost-small (s .n) (clashing s x) (rankAt byPriority s) l
-
 module _ (s : Session) (e : Event) (all : HeldAll (s .tasks)) where
-  refuses : (k : ℕ) → k ≢ 0 → Short (refused s k)
-  refuses k n = record { object = omega arith; contested = omega arith; whom = omega arith; few = omega arith; each = λ k l. absurd (omega arith) }
+  refuses : (k : ℕ) → k ≢ 0 → Entries (refused s k)
+  refuses k n = λ k l. absurd (omega arith)
 
   waits : releaseNumber byPriority s (e .tick) (e .task) ≡ 0 → blocked s (setsOf (e .reads) (e .writes)) ≡ true
-      → Short (scanning byPriority (waitSaid byPriority s (setsOf (e .reads) (e .writes))) (releasedInto s (e .tick) (e .task) (e .reads) (e .writes) (begins (e .tick))))
+      → Entries (scanning byPriority (waitSaid byPriority s (setsOf (e .reads) (e .writes))) (releasedInto s (e .tick) (e .task) (e .reads) (e .writes) (begins (e .tick))))
   unfolding releaseNumber
   waits z b =
-      let x = setsOf (e .reads) (e .writes) in
-      let n = timely s (e .tick) (e .task) _ z .n-high in
-      scanned (waitSaid byPriority s x) (releasedInto s (e .tick) (e .task) (e .reads) (e .writes) (begins (e .tick))) (allowed-m s (e .tick) (e .task) _ z) n
-      (set-held (s .tasks) (e .task) _ (omega arith, omega arith) all) (lowest-small s x) (count-small s x) (whom-small s x n)
+      scanned (waitSaid byPriority s (setsOf (e .reads) (e .writes))) (releasedInto s (e .tick) (e .task) (e .reads) (e .writes) (begins (e .tick)))
+      (allowed-m s (e .tick) (e .task) _ z) (timely s (e .tick) (e .task) _ z .n-high) (set-held (s .tasks) (e .task) _ (omega arith, omega arith) all)
 
-  commits : commitNumber s (e .tick) (e .task) ≡ 0 → Short (scanning byPriority Ok (committed byPriority s (e .tick) (e .task)))
+  commits : commitNumber s (e .tick) (e .task) ≡ 0 → Entries (scanning byPriority Ok (committed byPriority s (e .tick) (e .task)))
   unfolding commitNumber
   commits z =
       scanned Ok (committed byPriority s (e .tick) (e .task)) (allowed-m s (e .tick) (e .task) _ z) (timely s (e .tick) (e .task) _ z .n-high)
       (set-held (raised (ran byPriority s) s (setsAt s (e .task)) (s .n)) (e .task) (inState (taskAt s (e .task)) Plain) (omega arith, omega arith)
-      (raised-all (ran byPriority s) s (setsAt s (e .task)) (s .n) all)) (omega arith) (omega arith) (omega arith)
+      (raised-all (ran byPriority s) s (setsAt s (e .task)) (s .n) all))
 
   finishes : finishNumber byPriority s (e .tick) (e .task) ≡ 0
-      → Short (scanning byPriority Ok (withTask (stamped s (e .tick)) (e .task) (finished (taskAt s (e .task)))))
+      → Entries (scanning byPriority Ok (withTask (stamped s (e .tick)) (e .task) (finished (taskAt s (e .task)))))
   unfolding finishNumber
   finishes z =
       scanned Ok (withTask (stamped s (e .tick)) (e .task) (finished (taskAt s (e .task)))) (allowed-m s (e .tick) (e .task) _ z) (timely s (e .tick) (e .task) _ z .n-high)
-      (set-held (s .tasks) (e .task) _ (omega arith, omega arith) all) (omega arith) (omega arith) (omega arith)
+      (set-held (s .tasks) (e .task) _ (omega arith, omega arith) all)
 
-  pub short : Short (step byPriority s e)
-  short =
-      step-cases byPriority s e Short
-      (λ kind. arrive-cases Short s refuses (e .tick) (e .task) (λ z. unlisted Ok _ refl refl refl))
-      (λ kind. release-cases Short s refuses (e .tick) (e .task) byPriority (e .reads) (e .writes) waits (λ z free. unlisted Run _ refl refl refl))
-      (λ kind. commit-cases Short s refuses (e .tick) (e .task) byPriority commits)
-      (λ kind. finish-cases Short s refuses (e .tick) (e .task) byPriority finishes)
+  pub step-entries : Entries (step byPriority s e)
+  step-entries =
+      step-cases byPriority s e Entries
+      (λ kind. arrive-cases Entries s refuses (e .tick) (e .task) (λ z k l. absurd (omega arith)))
+      (λ kind. release-cases Entries s refuses (e .tick) (e .task) byPriority (e .reads) (e .writes) waits (λ z free k l. absurd (omega arith)))
+      (λ kind. commit-cases Entries s refuses (e .tick) (e .task) byPriority commits)
+      (λ kind. finish-cases Entries s refuses (e .tick) (e .task) byPriority finishes)
 
 -- ---- the session after it
 

@@ -2,7 +2,10 @@
 pub mod Laws
 pub mod Whole
 pub mod Written
-pub mod Windows
 pub mod Sizes
+pub mod Bounds
+pub mod Fitting
 pub mod Answers
+pub mod Alike
+pub mod Windows
 pub mod Progress

@@ -60,7 +60,7 @@ released rank s tick i reads writes = go (blocked s (setsOf reads writes)) _ _ r
     go true x y p q = p
     go false x y p q = q
 
-numbers-end : (rank : Ranking) (s : Session) (e : Event) → number (step rank s e .said) ≤ 7
+pub numbers-end : (rank : Ranking) (s : Session) (e : Event) → number (step rank s e .said) ≤ 7
 unfolding arrive release commit finish arriveNumber releaseNumber commitNumber finishNumber
 numbers-end rank s e =
     step-cases rank s e (λ (a : Answer). number (a .said) ≤ 7)

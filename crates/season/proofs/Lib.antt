@@ -3,3 +3,4 @@ pub mod Laws
 pub mod Windows
 pub mod Log
 pub mod Season
+pub mod Same

@@ -1,2 +1,3 @@
--- Parts of a booking, as the functions that make them say them.
+-- What an event books, by the list of its admissions; and parts of a booking, as the functions that make them say them.
+pub mod Listed
 pub mod Parts

@@ -1,17 +1,14 @@
 // The two calls by value.
 ghost use mathlib.Core.Path.{_≡_};
-ghost use Prim.Native.Nat.{_<_};
-ghost use Rattle.rules.specs.Answers.{number};
-ghost use Rattle.report.specs.Items.{entered};
-ghost use Rattle.report.specs.Booking.{opened, openNumber, opening, itemsIn, entryNumber, booking, rowAfter};
-ghost use Rattle.tally.specs.Parts.{Inside, answered};
-use crate::entry::enter_commit;
-use crate::entry::enter_waits;
+ghost use Rattle.report.specs.Booking.{opened, openNumber, opening, booking, rowAfter};
+ghost use Rattle.tally.specs.Parts.{Inside, sinceOf, Lists, answered};
+use crate::Noted;
+use crate::entry::commits;
+use crate::entry::enter;
 use crate::entry::number_of;
 use crate::entry::waited_after;
-use crate::entry::write_waits;
+use machine::Admitted;
 use report::Booked;
-use report::Figures;
 use report::OpenSession;
 use report::Opened;
 use report::Tally;
@@ -22,6 +19,7 @@ use rules::Event;
 use rules::Said;
 use rules::Session;
 use rules::Setup;
+use rules::State;
 use rules::Task;
 
 // A session of which no task has released yet.
@@ -83,52 +81,36 @@ pub fn opening(t: Tally, u: Setup) -> WithOpened
     }
 }
 
-// What an event's items make of the figures: the number that refuses the event or its booking, and where that is 0 the figures after it.
-pub(crate) struct Entry {
-    pub number: u8,
-    pub figures: [Figures; 64],
+// The tick that a wait of a task in this state counts from; of one that does not wait, now.
+fn since_of(state: State, tick: u32) -> u32
+    ensures { λ x. ⌜ x ≡ sinceOf state tick ⌝ }
+{
+    match state {
+        State::Absent => tick,
+        State::Plain => tick,
+        State::Waiting(w) => w.release,
+        State::Executing => tick,
+    }
 }
 
-// The manager's own refusal comes first, and 41 last.
-fn enter_items(
-    figures: [Figures; 64],
-    waited: [bool; 64],
-    tasks: [Task; 64],
-    e: Event,
-    said: Said,
-    admitted: Admissions,
-) -> Entry
-    requires { ⌜ (number said ≡ 0 → e .task < 64) × Inside admitted ⌝ }
-    ensures number { λ x. ⌜ x .number ≡ entryNumber figures (number said) (itemsIn waited tasks e said admitted) ⌝ }
-    ensures figures { λ x. ⌜ (x .number ≡ 0 → x .figures ≡ entered figures (itemsIn waited tasks e said admitted)) ⌝ }
+// The list of the admissions of an answer, four numbers of each.
+fn list_of(tasks: [Task; 64], tick: u32, admitted: Admissions) -> Admitted
+    requires { ⌜ Inside admitted ⌝ }
+    ensures { λ list. ⌜ Lists tasks tick (admitted .list) (admitted .count) list ⌝ }
 {
-    let number = number_of(said);
-    if number != 0 {
-        return Entry {
-            number: number,
-            figures: figures,
-        };
+    let mut list = [0u64; 64];
+    let end = admitted.count as usize;
+    for k in 0..end {
+        let a = admitted.list[k];
+        let t = tasks[a.task as usize];
+        let state = t.state;
+        let at = k * 4;
+        list[at] = a.task as u64;
+        list[at + 1] = a.clashes as u64;
+        list[at + 2] = a.retries as u64;
+        list[at + 3] = since_of(state, tick) as u64;
     }
-    let commit = enter_commit(figures, waited, e, said);
-    let between = commit.figures;
-    if !commit.fits {
-        return Entry {
-            number: 41,
-            figures: between,
-        };
-    }
-    let waits = enter_waits(between, tasks, e.tick, admitted);
-    let after = waits.figures;
-    if !waits.fits {
-        return Entry {
-            number: 41,
-            figures: after,
-        };
-    }
-    Entry {
-        number: 0,
-        figures: after,
-    }
+    list
 }
 
 // A tally, and the answer to an event.
@@ -168,19 +150,21 @@ pub fn booking(t: Tally, row: &mut [u32], o: OpenSession, e: Event) -> WithBooke
         session: session,
         waited: waited_now,
     };
-    let tasks = before.tasks;
-    let figures = t.figures;
-    let x = enter_items(figures, waited, tasks, e, said, admitted);
-    if x.number != 0 {
-        return with_answer(t, x.number, said, admitted, after);
+    let refusal = number_of(said);
+    if refusal != 0 {
+        return with_answer(t, refusal, said, admitted, after);
     }
-    write_waits(row, waits::waits_booked(figures), tasks, e.tick, admitted);
-    let setup = t.setup;
-    let figures_after = x.figures;
-    let tally = Tally {
-        taken: t.taken,
-        setup: setup,
-        figures: figures_after,
+    let kind = e.kind;
+    let tasks = before.tasks;
+    let list = list_of(tasks, e.tick, admitted);
+    let noted = Noted {
+        tick: e.tick,
+        task: e.task,
+        commits: commits(kind, said),
+        waited: waited[e.task as usize],
+        admitted: admitted.count,
     };
-    with_answer(tally, 0, said, admitted, after)
+    let x = enter(t, row, noted, &list);
+    let tally = x.tally;
+    with_answer(tally, x.number, said, admitted, after)
 }

@@ -1,21 +1,24 @@
-// What one event books.
+// What one event books, by the list of its admissions.
 ghost use mathlib.Core.Path.{_≡_};
-ghost use mathlib.Core.Bool.{true};
-ghost use Prim.Native.Nat.{_<_, _-_, _^_};
+ghost use mathlib.Core.Bool.{true, _&&_};
+ghost use mathlib.Core.List.{[], _∷_};
+ghost use lib.Dec.{eqb};
+ghost use Prim.Native.Nat.{_<_, _-_, _%_, _^_, min};
 ghost use Rattle.rules.specs.Answers.{isWait, number};
 ghost use Rattle.rules.specs.History.{isCommit, isRelease};
-ghost use Rattle.report.specs.Items.{entered, enterable, waitsIn, written};
-ghost use Rattle.report.specs.Booking.{ticksOf, waitItems, commitItems, waitedAfter};
-ghost use Rattle.tally.specs.Parts.{Inside};
+ghost use Rattle.report.specs.Items.{commit, entered, enterable, waitsIn, written};
+ghost use Rattle.report.specs.Booking.{waitedAfter, withFigures};
+ghost use Rattle.tally.specs.Listed.{listedWaits, listedItems, entering, rowEntering};
+use crate::Noted;
+use crate::WithEntered;
 use crate::item::with_commit;
 use crate::item::with_wait;
+use machine::Admitted;
 use report::Figures;
-use rules::Admissions;
+use report::Tally;
 use rules::Event;
 use rules::Kind;
 use rules::Said;
-use rules::State;
-use rules::Task;
 
 // The figures of all tasks after items, and whether no total passes.
 pub(crate) struct Entered {
@@ -61,7 +64,28 @@ fn is_release(kind: Kind) -> bool
     }
 }
 
-fn is_wait(said: Said) -> bool
+// Whether an event that was answered so is a commit that is accepted.
+pub fn commits(kind: Kind, said: Said) -> bool
+    ensures { λ yes. ⌜ yes ≡ (eqb (number said) 0 && isCommit kind) ⌝ }
+{
+    if number_of(said) != 0 {
+        return false;
+    }
+    is_commit(kind)
+}
+
+// Whether it is a release that is accepted.
+pub fn releases(kind: Kind, said: Said) -> bool
+    ensures { λ yes. ⌜ yes ≡ (eqb (number said) 0 && isRelease kind) ⌝ }
+{
+    if number_of(said) != 0 {
+        return false;
+    }
+    is_release(kind)
+}
+
+// Whether it waits.
+pub fn is_wait(said: Said) -> bool
     ensures { λ yes. ⌜ yes ≡ isWait said ⌝ }
 {
     match said {
@@ -76,67 +100,47 @@ fn is_wait(said: Said) -> bool
     }
 }
 
-// The ticks from a release to now; 0 where it would be later than now.
-fn ticks_since(release: u32, tick: u32) -> u32
-    ensures { λ x. ⌜ x ≡ tick - release ⌝ }
-{
-    if tick < release { 0 } else { tick - release }
-}
-
-// The ticks of a wait that ends now.
-fn ticks_of(state: State, tick: u32) -> u32
-    ensures { λ x. ⌜ x ≡ ticksOf state tick ⌝ }
-{
-    match state {
-        State::Absent => 0,
-        State::Plain => 0,
-        State::Waiting(w) => ticks_since(w.release, tick),
-        State::Executing => 0,
-    }
-}
-
 // Whether the transaction that each task released last had to wait, after an event.
 pub(crate) fn waited_after(mut waited: [bool; 64], e: Event, said: Said) -> [bool; 64]
     requires { ⌜ (number said ≡ 0 → e .task < 64) ⌝ }
     ensures { λ x. ⌜ x ≡ waitedAfter waited e said ⌝ }
 {
-    if number_of(said) != 0 {
-        return waited;
-    }
     let kind = e.kind;
-    if is_release(kind) {
+    if releases(kind, said) {
         waited[e.task as usize] = is_wait(said);
     }
     waited
 }
 
-// The figures after the commit of an event, if it is one.
-pub(crate) fn enter_commit(
-    mut figures: [Figures; 64],
-    waited: [bool; 64],
-    e: Event,
-    said: Said,
-) -> Entered
-    requires { ⌜ (number said ≡ 0 → e .task < 64) ⌝ }
-    ensures fits { λ x. ⌜ x .fits ≡ enterable figures (commitItems waited e said) ⌝ }
-    ensures figures { λ x. ⌜ (x .fits ≡ true → x .figures ≡ entered figures (commitItems waited e said)) ⌝ }
+// The ticks from a release to now; 0 where it would be later than now.
+fn ticks_since(release: u64, tick: u32) -> u32
+    ensures { λ x. ⌜ x ≡ tick - release ⌝ }
 {
-    let kind = e.kind;
-    if number_of(said) != 0 {
-        return Entered {
-            fits: true,
-            figures: figures,
-        };
+    let now = tick as u64;
+    if now < release {
+        return 0;
     }
-    if !is_commit(kind) {
-        return Entered {
-            fits: true,
-            figures: figures,
-        };
+    (now - release) as u32
+}
+
+// How many of the admissions are listed: there are no more than 16 to list.
+fn listed(admitted: u8) -> usize
+    ensures { λ n. ⌜ n ≡ min admitted 16 ⌝ }
+{
+    if admitted < 16 {
+        return admitted as usize;
     }
-    let i = e.task as usize;
+    16
+}
+
+// The figures after a commit.
+fn enter_commit(mut figures: [Figures; 64], task: u8, waited: bool) -> Entered
+    ensures fits { λ x. ⌜ x .fits ≡ enterable figures (commit (task % 64) waited ∷ []) ⌝ }
+    ensures figures { λ x. ⌜ (x .fits ≡ true → x .figures ≡ entered figures (commit (task % 64) waited ∷ [])) ⌝ }
+{
+    let i = (task % 64) as usize;
     let f = figures[i];
-    let x = with_commit(f, waited[i]);
+    let x = with_commit(f, waited);
     let after = x.figures;
     figures[i] = after;
     Entered {
@@ -146,24 +150,21 @@ pub(crate) fn enter_commit(
 }
 
 // The figures after the waits that a scan ended.
-pub(crate) fn enter_waits(
-    mut figures: [Figures; 64],
-    tasks: [Task; 64],
-    tick: u32,
-    admitted: Admissions,
-) -> Entered
-    requires { ⌜ Inside admitted ⌝ }
-    ensures fits { λ x. ⌜ x .fits ≡ enterable figures (waitItems tasks tick (admitted .list) (admitted .count)) ⌝ }
-    ensures figures { λ x. ⌜ (x .fits ≡ true → x .figures ≡ entered figures (waitItems tasks tick (admitted .list) (admitted .count))) ⌝ }
+fn enter_waits(mut figures: [Figures; 64], list: &Admitted, tick: u32, admitted: u8) -> Entered
+    ensures fits { λ x. ⌜ x .fits ≡ enterable figures (listedWaits (now (list .entry)) tick (min admitted 16)) ⌝ }
+    ensures figures { λ x. ⌜ (x .fits ≡ true → x .figures ≡ entered figures (listedWaits (now (list .entry)) tick (min admitted 16))) ⌝ }
 {
-    let end = admitted.count as usize;
+    let end = listed(admitted);
     for k in 0..end {
-        let a = admitted.list[k];
-        let i = a.task as usize;
-        let t = tasks[i];
-        let state = t.state;
+        let at = k * 4;
+        let i = (list[at] % 64) as usize;
         let f = figures[i];
-        let x = with_wait(f, ticks_of(state, tick), a.clashes, a.retries);
+        let x = with_wait(
+            f,
+            ticks_since(list[at + 3], tick),
+            list[at + 1],
+            list[at + 2],
+        );
         if !x.fits {
             return Entered {
                 fits: false,
@@ -179,26 +180,70 @@ pub(crate) fn enter_waits(
     }
 }
 
+// The event's own commit first, and then the waits.
+fn enter_items(figures: [Figures; 64], n: Noted, list: &Admitted) -> Entered
+    ensures fits { λ x. ⌜ x .fits ≡ enterable figures (listedItems n (now (list .entry))) ⌝ }
+    ensures figures { λ x. ⌜ (x .fits ≡ true → x .figures ≡ entered figures (listedItems n (now (list .entry)))) ⌝ }
+{
+    if !n.commits {
+        return enter_waits(figures, list, n.tick, n.admitted);
+    }
+    let x = enter_commit(figures, n.task, n.waited);
+    let between = x.figures;
+    if !x.fits {
+        return Entered {
+            fits: false,
+            figures: between,
+        };
+    }
+    enter_waits(between, list, n.tick, n.admitted)
+}
+
 // Writes the waits that a scan ended into the row, the first of them as wait number `from`.
-pub(crate) fn write_waits(
-    row: &mut [u32],
-    from: usize,
-    tasks: [Task; 64],
-    tick: u32,
-    admitted: Admissions,
-)
-    requires { ⌜ Inside admitted × (from < 2 ^ 40) ⌝ }
-    ensures { λ _. ⌜ now (row .exit) ≡ written (now (row .entry)) from (waitsIn (waitItems tasks tick (admitted .list) (admitted .count))) ⌝ }
+fn write_waits(row: &mut [u32], from: usize, list: &Admitted, tick: u32, admitted: u8)
+    requires { ⌜ from < 2 ^ 40 ⌝ }
+    ensures { λ _. ⌜ now (row .exit) ≡ written (now (row .entry)) from (waitsIn (listedWaits (now (list .entry)) tick (min admitted 16))) ⌝ }
 {
     let places = waits::places_in(row.len());
     if places == 0 {
         return;
     }
-    let end = admitted.count as usize;
+    let end = listed(admitted);
     for k in 0..end {
-        let a = admitted.list[k];
-        let t = tasks[a.task as usize];
-        let state = t.state;
-        row[(from + k) % places] = ticks_of(state, tick);
+        row[(from + k) % places] = ticks_since(list[k * 4 + 3], tick);
+    }
+}
+
+// A tally with other figures.
+fn with_figures(t: Tally, figures: [Figures; 64]) -> Tally
+    ensures { λ x. ⌜ x ≡ withFigures t figures ⌝ }
+{
+    let setup = t.setup;
+    Tally {
+        taken: t.taken,
+        setup: setup,
+        figures: figures,
+    }
+}
+
+// Books an accepted event. Where a total would pass, with 41, the tally and the row are as they were.
+pub fn enter(t: Tally, row: &mut [u32], n: Noted, list: &Admitted) -> WithEntered
+    ensures is { λ x. ⌜ x ≡ entering t (listedItems n (now (list .entry))) ⌝ }
+    ensures writes { λ x. ⌜ now (row .exit) ≡ rowEntering t (listedItems n (now (list .entry))) (now (row .entry)) ⌝ }
+{
+    let figures = t.figures;
+    let x = enter_items(figures, n, list);
+    if !x.fits {
+        return WithEntered {
+            number: 41,
+            tally: t,
+        };
+    }
+    write_waits(row, waits::waits_booked(figures), list, n.tick, n.admitted);
+    let figures_after = x.figures;
+    let tally = with_figures(t, figures_after);
+    WithEntered {
+        number: 0,
+        tally: tally,
     }
 }

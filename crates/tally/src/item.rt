@@ -12,10 +12,11 @@ pub(crate) struct Sum {
     pub total: u32,
 }
 
-fn add(total: u32, more: u32) -> Sum
+fn add(total: u32, more: u64) -> Sum
     ensures { λ s. ⌜ s ≡ added total more ⌝ }
 {
-    if 4294967295 - total < more {
+    let room = 4294967295 - total;
+    if (room as u64) < more {
         return Sum {
             fits: false,
             total: total,
@@ -23,11 +24,11 @@ fn add(total: u32, more: u32) -> Sum
     }
     Sum {
         fits: true,
-        total: total + more,
+        total: total + (more as u32),
     }
 }
 
-fn one_if(yes: bool) -> u32
+fn one_if(yes: bool) -> u64
     ensures { λ x. ⌜ x ≡ one yes ⌝ }
 {
     if yes { 1 } else { 0 }
@@ -81,7 +82,7 @@ pub(crate) fn with_commit(f: Figures, waited: bool) -> Counted
 }
 
 // A wait of so many ticks, with its clashes and its retries.
-pub(crate) fn with_wait(f: Figures, ticks: u32, clashes: u32, retries: u32) -> Counted
+pub(crate) fn with_wait(f: Figures, ticks: u32, clashes: u64, retries: u64) -> Counted
     ensures { λ c. ⌜ c ≡ counted f (wait 0 ticks clashes retries) ⌝ }
 {
     let all_clashes = add(f.clashes, clashes);
@@ -92,7 +93,7 @@ pub(crate) fn with_wait(f: Figures, ticks: u32, clashes: u32, retries: u32) -> C
     if !all_retries.fits {
         return refuse(f);
     }
-    let all_ticks = add(f.ticks, ticks);
+    let all_ticks = add(f.ticks, ticks as u64);
     if !all_ticks.fits {
         return refuse(f);
     }

@@ -5,14 +5,10 @@ use mathlib.Core.Logic.{_⊎_, inl, inr}
 use mathlib.Core.List.{List, [], _∷_, _++_}
 use mathlib.Core.Bool.{Bool, true, false, _&&_, and-assoc}
 use native.Mathlib.Omega.{arith}
-use lib.ListN.{getD}
 use Rattle.objects.proofs.Laws.Below.{below-suc}
-use Rattle.rules.specs.declared.Task.{Task}
-use Rattle.rules.specs.declared.Admission.{Admission}
-use Rattle.rules.specs.Scan.{noAdmission}
 use Rattle.report.specs.declared.Figures.{Figures}
 use Rattle.report.specs.Items.{Item, taskOf, figuresAt, fits, enter, entered, enterable}
-use Rattle.report.specs.Booking.{waitItem, waitItems}
+use Rattle.tally.specs.Listed.{listedWait, listedWaits}
 
 -- ---- two lists
 
@@ -52,27 +48,27 @@ entered-none all = refl
 
 -- ---- the waits that a scan ended
 
-module _ (tasks : List Task) (tick : ℕ) (list : List Admission) (all : List Figures) where
+module _ (list : List ℕ) (tick : ℕ) (all : List Figures) where
   abbrev waits : ℕ → List Item
-  waits k = waitItems tasks tick list k
+  waits k = listedWaits list tick k
 
   abbrev item : ℕ → Item
-  item k = waitItem tasks tick (getD list k noAdmission)
+  item k = listedWait list tick k
 
   pub none-enterable : enterable all (waits 0) ≡ true
-  unfolding waitItems
+  unfolding listedWaits
   none-enterable = enterable-none all
 
   pub none-entered : entered all (waits 0) ≡ all
-  unfolding waitItems
+  unfolding listedWaits
   none-entered = entered-none all
 
   pub more-entered : (k : ℕ) → entered all (waits (suc k)) ≡ enter (entered all (waits k)) (item k)
-  unfolding waitItems
+  unfolding listedWaits
   more-entered k = entered-both all (waits k) (item k ∷ []) ∙ entered-one (entered all (waits k)) (item k)
 
   more-enterable : (k : ℕ) → enterable all (waits (suc k)) ≡ (enterable all (waits k) && fits (figuresAt (entered all (waits k)) (taskOf (item k))) (item k))
-  unfolding waitItems
+  unfolding listedWaits
   more-enterable k =
       enterable-both all (waits k) (item k ∷ [])
       ∙ ap (λ (b : Bool). enterable all (waits k) && b) (enterable-one (entered all (waits k)) (item k))

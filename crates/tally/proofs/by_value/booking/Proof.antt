@@ -1,12 +1,19 @@
 -- `tally::by_value::booking` meets its contract: its parts are those of the booking, and what the answer lists lies within the tables. Assumes nothing.
-use Prim.Native.Nat.{ℕ}
-use mathlib.Core.Path.{sym, ap, subst, _∙_}
+use Prim.Native.Nat.{min}
+use mathlib.Core.Path.{_≡_, refl, sym, ap, subst, _∙_}
+use mathlib.Core.Bool.{false}
+use native.Mathlib.Nat.{mod-eq-of-lt}
+use native.Mathlib.Omega.{arith}
+use lib.ListN.{getD}
 use borrow.Author.Needs.{needs}
+use Rattle.rules.specs.declared.Answer.{Answer}
+use Rattle.rules.specs.Answers.{number}
 use Rattle.rules.specs.Ranking.{byPriority}
-use Rattle.report.specs.Items.{waitsIn, written}
-use Rattle.report.specs.Booking.{waitItems}
+use Rattle.tally.specs.declared.Noted.{Noted}
+use Rattle.tally.specs.declared.WithEntered.{WithEntered}
+use Rattle.tally.specs.Listed.{listedItems}
 use Rattle.tally.proofs.Laws.Inside.{Within, answer-inside}
-use Rattle.tally.proofs.Laws.Booked.{refused-is, booked-is}
+use Rattle.tally.proofs.Laws.Booked.{items-listed, made, made-by, refused-is, entered-is}
 use Rattle.tally.proofs.by_value.booking.Statement.{statement}
 use Rattle.tally.proofs.by_value.booking.Tie as tie
 
@@ -16,34 +23,53 @@ inside c =
     let a = c .before .before .before .before .args in
     subst (Within (a .e .task)) (sym (c .step .ensures)) (answer-inside byPriority (a .o .session) (a .e))
 
+-- and it is no refusal
+is-accepted : (c : tie.Else1) → number (c .before .before .before .before .before .step .result .said) ≡ 0
+is-accepted c = sym (c .before .number-of .ensures) ∙ c .if1 .left
+
 step-requires : tie.Need-step-requires
 step-requires c κs = search needs
 
 waited-after-requires : tie.Need-waited-after-requires
 waited-after-requires c κs = inside (c .before .before) .task
 
-enter-items-requires : tie.Need-enter-items-requires
-enter-items-requires c κs = let p = inside (c .before .before .before .before .before) in (p .task, p .listed)
+number-of-requires : tie.Need-number-of-requires
+number-of-requires c κs = search needs
 
 with-answer-requires : tie.Need-with-answer-requires
 with-answer-requires c κs = search needs
 
 returns : tie.Need-returns
 returns c =
-    let x = c .before .before .before in
-    let s = x .before .before .before .before .before .before in
+    let x = c .before .before in
+    let w = x .before in
+    let s = w .before .before .before in
     let a = s .before .before .before .before .args in
-    let is =
-    refused-is (a .t) (a .o) (a .e) (a .row .now) (s .step .result) (x .before .before .before .waited-after .result) (x .enter-items .result .number)
-    (s .step .ensures) (x .before .before .before .waited-after .ensures) (x .enter-items .ensures .0) (c .before .if1 .taken)
-    in
-    (c .with-answer .ensures ∙ is .0, is .1)
+    let answer = s .step .result in
+    let said = ap (λ (y : Answer). number (y .said)) (s .step .ensures) in
+    let number-is = x .number-of .ensures ∙ said in
+    let is = refused-is (a .t) (a .o) (a .e) (a .row .now) (λ z. c .before .if1 .taken (number-is ∙ z)) in (
+      c .with-answer .ensures ∙ made-by (a .t) (a .o) (a .e) answer (a .t) (x .number-of .result) (w .waited-after .result) (s .step .ensures) (w .waited-after .ensures)
+          ∙ ap (made (a .t) (a .o) (a .e) (a .t)) number-is ∙ sym (is .0),
+      sym (is .1),
+    )
 
-waits-booked-requires : tie.Need-waits-booked-requires
-waits-booked-requires c κs = search needs
+list-of-requires : tie.Need-list-of-requires
+list-of-requires c κs = inside (c .before .before .before .before .before .before) .listed
 
-write-waits-requires : tie.Need-write-waits-requires
-write-waits-requires c κs = (inside (c .before .before .before .before .before .before .before .before .before .before) .listed, c .waits-booked .ensures .1)
+commits-requires : tie.Need-commits-requires
+commits-requires c κs = search needs
+
+cast-t23 : tie.Need-cast-t23
+cast-t23 c = search needs
+
+array-read-t26 : tie.Need-array-read-t26
+array-read-t26 c =
+    let y = c .before .before .before .before in
+    inside (y .before .before .before .before .before) .task (is-accepted y)
+
+enter-requires : tie.Need-enter-requires
+enter-requires c κs = search needs
 
 with-answer-requires-2 : tie.Need-with-answer-requires-2
 with-answer-requires-2 c κs = search needs
@@ -53,18 +79,32 @@ same-length c = search needs
 
 returns-2 : tie.Need-returns-2
 returns-2 c =
-    let w = c .before .before .before .before .before in
-    let x = w .before .before .before .before .before in
-    let s = x .before .before .before .before .before .before in
+    let x = c .before .before .before .before in
+    let m = x .before .before .before .before in
+    let l = m .before in
+    let y = l .before .before in
+    let w = y .before .before in
+    let s = w .before .before .before in
     let a = s .before .before .before .before .args in
-    let is =
-    booked-is (a .t) (a .o) (a .e) (a .row .now) (s .step .result) (x .before .before .before .waited-after .result) (x .enter-items .result .number)
-    (x .enter-items .result .figures) (w .write-waits .last .0) (s .step .ensures) (x .before .before .before .waited-after .ensures) (x .enter-items .ensures .0)
-    (w .before .before .before .if1 .left) (x .enter-items .ensures .1 (w .before .before .before .if1 .left))
-    (w .write-waits .ensures
-    ∙ ap (λ (n : ℕ). written (a .row .now) n (waitsIn (waitItems (a .o .session .tasks) (a .e .tick) (s .step .result .admitted .list) (s .step .result .admitted .count)))) (w .before .waits-booked .ensures .0))
+    let answer = s .step .result in
+    let low = inside s .task (is-accepted y) in
+    let few : min (answer .admitted .count) 16 ≡ answer .admitted .count = omega (arith, inside s .listed .0) in
+    let noted : Noted = record {
+      tick = a .e .tick;
+      task = a .e .task;
+      commits = m .commits .result;
+      waited = getD (a .o .waited) (a .e .task) false;
+      admitted = answer .admitted .count;
+    } in
+    let new = items-listed noted (l .list-of .result) (a .o .waited) (a .o .session .tasks) (a .e) (answer .said) (answer .admitted) refl (m .commits .ensures)
+    (mod-eq-of-lt low) refl few (l .list-of .ensures)
     in
-    (c .with-answer2 .ensures ∙ is .0, is .1)
+    let is = entered-is (a .t) (a .o) (a .e) answer (listedItems noted (l .list-of .result)) (a .row .now) (s .step .ensures) (is-accepted y) new in (
+      c .with-answer2 .ensures
+          ∙ made-by (a .t) (a .o) (a .e) answer (x .enter .result .tally) (x .enter .result .number) (w .waited-after .result) (s .step .ensures) (w .waited-after .ensures)
+          ∙ ap (λ (z : WithEntered). made (a .t) (a .o) (a .e) (z .tally) (z .number)) (x .enter .ensures .0) ∙ is .0,
+      x .enter .ensures .1 ∙ is .1,
+    )
 
 pub booking-spec : {M : Type 1} → statement M
 booking-spec =
@@ -72,11 +112,14 @@ booking-spec =
     (tie.spec
     step-requires
     waited-after-requires
-    enter-items-requires
+    number-of-requires
     with-answer-requires
     returns
-    waits-booked-requires
-    write-waits-requires
+    list-of-requires
+    commits-requires
+    cast-t23
+    array-read-t26
+    enter-requires
     with-answer-requires-2
     same-length
     returns-2)

@@ -1,5 +1,5 @@
 -- `tally::entry::write_waits` meets its contract. The loop's invariant: the waits passed are written. The measure is what is left of the admissions. Assumes nothing.
-use Prim.Native.Nat.{ℕ, suc, _+_, _-_, _%_, _≤_, _<_, min}
+use Prim.Native.Nat.{ℕ, suc, _+_, _-_, _*_, _%_, _≤_, _<_, min}
 use mathlib.Core.Path.{_≡_, refl, sym, ap, ap₂, _∙_}
 use mathlib.Core.Bool.{Bool, cond}
 use mathlib.Core.List.{List}
@@ -9,20 +9,18 @@ use native.Mathlib.Omega.{arith}
 use lib.ListN.{length, length-set, getD, set}
 use borrow.Author.Needs.{needs}
 use borrow.Author.Tests.{eq-eqb, ne-eqb}
-use Rattle.rules.specs.Tasks.{noTask}
-use Rattle.rules.specs.Scan.{noAdmission}
 use Rattle.report.specs.Items.{placesOf, waitsIn, putWait, written}
-use Rattle.report.specs.Booking.{ticksOf, waitItems}
+use Rattle.tally.specs.Listed.{listedWaits}
 use Rattle.tally.proofs.Laws.Rows.{no-place, no-wait, one-more-wait}
 use Rattle.tally.proofs.entry.write_waits.Statement.{statement}
 use Rattle.tally.proofs.entry.write_waits.Tie as tie
 
 abbrev Inv-loop : tie.InvT-loop
-Inv-loop row₀ from tick tasks admitted places end k₀ row k =
-    (end ≡ admitted .count) × (k ≤ end) × (length row ≡ length row₀) × (row ≡ written row₀ from (waitsIn (waitItems tasks tick (admitted .list) k)))
+Inv-loop row₀ from list tick admitted places end k₀ row k =
+    (end ≡ min admitted 16) × (k ≤ end) × (length row ≡ length row₀) × (row ≡ written row₀ from (waitsIn (listedWaits list tick k)))
 
 abbrev μ-loop : tie.MeasureT-loop
-μ-loop row₀ from tick tasks admitted places end k₀ row k = end - k
+μ-loop row₀ from list tick admitted places end k₀ row k = end - k
 
 places-in-requires : tie.Need-places-in-requires Inv-loop μ-loop
 places-in-requires c κs = search needs
@@ -30,47 +28,39 @@ places-in-requires c κs = search needs
 returns : tie.Need-returns Inv-loop μ-loop
 returns c =
     let a = c .before .before .before .args in
-    sym (no-place (a .row .now) (a .from) (waitsIn (waitItems (a .t3) (a .tick) (a .t5 .list) (a .t5 .count)))
+    sym (no-place (a .row .now) (a .from) (waitsIn (listedWaits (a .list .now) (a .tick) (min (a .admitted) 16)))
     (eq-eqb (placesOf (a .row .now)) 0 (sym (c .before .places-in .ensures) ∙ c .if1 .taken)))
 
-cast-end : tie.Need-cast-end Inv-loop μ-loop
-cast-end c = search needs
+listed-requires : tie.Need-listed-requires Inv-loop μ-loop
+listed-requires c κs = search needs
 
 loop-holds : tie.Need-loop-holds Inv-loop μ-loop
 loop-holds c =
-    let a = c .before .before .before .args in
-    (refl, omega arith, refl, sym (no-wait (a .t3) (a .tick) (a .t5 .list) (a .row .now) (a .from)))
+    let a = c .before .before .before .before .args in
+    (c .listed .ensures, omega arith, refl, sym (no-wait (a .list .now) (a .tick) (a .row .now) (a .from)))
 
--- the admission that is looked at lies within the tables
-task-inside : (c : tie.In-loop Inv-loop μ-loop)
-    → getD (c .before .before .before .before .before .args .t5 .list) (c .before .loop .k) noAdmission .task < 64
-task-inside c = c .before .before .before .before .before .pre .0 .1 (c .before .loop .k) (omega arith)
+mul-ticks-since : tie.Need-mul-ticks-since Inv-loop μ-loop
+mul-ticks-since c = omega arith
 
-mul-a : tie.Need-mul-a Inv-loop μ-loop
-mul-a c = omega (arith, c .before .before .before .before .before .pre .0 .0)
+add-ticks-since : tie.Need-add-ticks-since Inv-loop μ-loop
+add-ticks-since c = omega arith
 
-element-copy-out-a : tie.Need-element-copy-out-a Inv-loop μ-loop
-element-copy-out-a c = omega (arith, c .before .before .before .before .before .pre .0 .0)
+mul-ticks-since-2 : tie.Need-mul-ticks-since-2 Inv-loop μ-loop
+mul-ticks-since-2 c = omega arith
 
-cast-t : tie.Need-cast-t Inv-loop μ-loop
-cast-t c = omega (arith, task-inside (c .before .before))
+element-copy-out-ticks-since : tie.Need-element-copy-out-ticks-since Inv-loop μ-loop
+element-copy-out-ticks-since c = omega arith
 
-mul-t : tie.Need-mul-t Inv-loop μ-loop
-mul-t c = omega (arith, task-inside (c .before .before))
-
-array-copy-out-t : tie.Need-array-copy-out-t Inv-loop μ-loop
-array-copy-out-t c = task-inside (c .before .before)
-
-ticks-of-requires : tie.Need-ticks-of-requires Inv-loop μ-loop
-ticks-of-requires c κs = search needs
+ticks-since-requires : tie.Need-ticks-since-requires Inv-loop μ-loop
+ticks-since-requires c κs = search needs
 
 -- one more wait: its place, and the row with it
-module _ (c : tie.After-ticks-of Inv-loop μ-loop) where
+module _ (c : tie.After-ticks-since Inv-loop μ-loop) where
   abbrev here : tie.In-loop Inv-loop μ-loop
-  here = c .before .before .before .before
+  here = c .before .before
 
   abbrev start : tie.Start Inv-loop μ-loop
-  start = here .before .before .before .before .before
+  start = here .before .before .before .before .before .before
 
   abbrev at : ℕ
   at = here .before .loop .k
@@ -82,32 +72,32 @@ module _ (c : tie.After-ticks-of Inv-loop μ-loop) where
   from = start .args .from
 
   abbrev places : ℕ
-  places = here .before .before .before .places-in .result
+  places = here .before .before .before .before .places-in .result
 
   abbrev waits : ℕ → List ℕ
-  waits k = waitsIn (waitItems (start .args .t3) (start .args .tick) (start .args .t5 .list) k)
+  waits k = waitsIn (listedWaits (start .args .list .now) (start .args .tick) k)
 
   places-are : places ≡ placesOf row
-  places-are = here .before .before .before .places-in .ensures ∙ ap (λ (size : ℕ). min 4096 size) (sym (here .before .loop .inv .2))
+  places-are = here .before .before .before .before .places-in .ensures ∙ ap (λ (size : ℕ). min 4096 size) (sym (here .before .loop .inv .2))
 
   some : 0 < places
-  some = omega (arith, here .before .before .if1 .left)
+  some = omega (arith, here .before .before .before .if1 .left)
 
   inside : (from + at) % places < length row
   inside = omega (arith, mod-lt (from + at) {m = places} some, places-are)
 
-  one-more : set row ((from + at) % places) (c .ticks-of .result) ≡ written (start .args .row .now) from (waits (suc at))
+  one-more : set row ((from + at) % places) (c .ticks-since .result) ≡ written (start .args .row .now) from (waits (suc at))
   one-more =
-      ap₂ (λ (n ticks : ℕ). set row ((from + at) % n) ticks) places-are (c .ticks-of .ensures)
-      ∙ sym (ap (λ (b : Bool). cond b row (set row ((from + at) % placesOf row) ticks)) (ne-eqb (placesOf row) 0 (λ z. here .before .before .if1 .left (places-are ∙ z))))
+      ap₂ (λ (n ticks : ℕ). set row ((from + at) % n) ticks) places-are (c .ticks-since .ensures)
+      ∙ sym (ap (λ (b : Bool). cond b row (set row ((from + at) % placesOf row) ticks)) (ne-eqb (placesOf row) 0 (λ z. here .before .before .before .if1 .left (places-are ∙ z))))
       ∙ ap (λ (r : List ℕ). putWait r (from + at) ticks) (here .before .loop .inv .3)
-      ∙ sym (one-more-wait (start .args .t3) (start .args .tick) (start .args .t5 .list) (start .args .row .now) from at)
+      ∙ sym (one-more-wait (start .args .list .now) (start .args .tick) (start .args .row .now) from at)
     where
       ticks : ℕ
-      ticks = ticksOf (getD (start .args .t3) (getD (start .args .t5 .list) at noAdmission .task) noTask .state) (start .args .tick)
+      ticks = start .args .tick - getD (start .args .list .now) (at * 4 + 3) 0
 
 add-row : tie.Need-add-row Inv-loop μ-loop
-add-row c = omega (arith, start c .pre .1, start c .pre .0 .0)
+add-row c = omega (arith, start c .pre)
 
 rem-row : tie.Need-rem-row Inv-loop μ-loop
 rem-row c = some c
@@ -119,16 +109,16 @@ slice-write-row : tie.Need-slice-write-row Inv-loop μ-loop
 slice-write-row c = inside c
 
 add-k : tie.Need-add-k Inv-loop μ-loop
-add-k c = omega (arith, start c .pre .0 .0)
+add-k c = omega arith
 
 loop-less : tie.Need-loop-less Inv-loop μ-loop
 loop-less c = omega arith
 
 loop-again : tie.Need-loop-again Inv-loop μ-loop
 loop-again c = (
-  refl,
+  here c .before .loop .inv .0,
   omega arith,
-  length-set (row c) ((from c + at c) % places c) (c .ticks-of .result) ∙ here c .before .loop .inv .2,
+  length-set (row c) ((from c + at c) % places c) (c .ticks-since .result) ∙ here c .before .loop .inv .2,
   one-more c ∙ ap (λ (k : ℕ). written (start c .args .row .now) (from c) (waits c k)) (sym (add-one (at c))),
 )
 
@@ -137,9 +127,9 @@ same-length c = c .before .loop .inv .2
 
 returns-2 : tie.Need-returns-2 Inv-loop μ-loop
 returns-2 c =
-    let a = c .before .before .before .before .before .args in
-    let done : c .before .loop .k ≡ a .t5 .count = omega arith in
-    c .before .loop .inv .3 ∙ ap (λ (k : ℕ). written (a .row .now) (a .from) (waitsIn (waitItems (a .t3) (a .tick) (a .t5 .list) k))) done
+    let a = c .before .before .before .before .before .before .args in
+    let done : c .before .loop .k ≡ min (a .admitted) 16 = omega arith in
+    c .before .loop .inv .3 ∙ ap (λ (k : ℕ). written (a .row .now) (a .from) (waitsIn (listedWaits (a .list .now) (a .tick) k))) done
 
 pub write-waits-spec : {M : Type 1} → statement M
 write-waits-spec =
@@ -149,14 +139,13 @@ write-waits-spec =
     μ-loop
     places-in-requires
     returns
-    cast-end
+    listed-requires
     loop-holds
-    mul-a
-    element-copy-out-a
-    cast-t
-    mul-t
-    array-copy-out-t
-    ticks-of-requires
+    mul-ticks-since
+    add-ticks-since
+    mul-ticks-since-2
+    element-copy-out-ticks-since
+    ticks-since-requires
     add-row
     rem-row
     mul-row

@@ -2,6 +2,7 @@
 use libc::STDOUT_FILENO;
 use log::Found;
 use log::Step;
+use rules::Admission;
 use rules::Answer;
 use rules::Event;
 use rules::Said;
@@ -36,14 +37,32 @@ pub(crate) fn setup_line(u: Setup) {
     show(&lines, put);
 }
 
+fn event_line(e: Event, said: Said) {
+    let kind = e.kind;
+    let mut lines = [0u8; 1024];
+    let put = text::event_line(&mut lines, 0, e.tick, kind, e.task, said);
+    show(&lines, put);
+}
+
+fn admit_line(tick: u32, a: Admission) {
+    let mut lines = [0u8; 1024];
+    let put = text::admit_line(&mut lines, 0, tick, a.task, a.clashes, a.retries);
+    show(&lines, put);
+}
+
 // The line of an event, and those of its admissions.
 pub(crate) fn answer_lines(e: Event, answer: Answer) {
-    let kind = e.kind;
     let said = answer.said;
     let admitted = answer.admitted;
-    let mut lines = [0u8; 1024];
-    let put = text::answer_lines(&mut lines, 0, e.tick, kind, e.task, said, admitted);
-    show(&lines, put);
+    event_line(e, said);
+    let mut end: usize = 16;
+    if admitted.count < 16 {
+        end = admitted.count as usize;
+    }
+    for k in 0..end {
+        let a = admitted.list[k];
+        admit_line(e.tick, a);
+    }
 }
 
 pub(crate) fn end_line(accepted: u32, refused: u32) {

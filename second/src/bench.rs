@@ -1,4 +1,4 @@
-//! Times another replay program against this one, on logs of a busy box.
+//! Times another replay program against this one, and its report beside it, on logs of a busy box.
 
 use std::ffi::OsString;
 use std::fs::{self, File};
@@ -15,55 +15,71 @@ use crate::random::Size;
 use crate::rules::Answer;
 
 /// The boxes, as m and n.
-const BOXES: [(u8, u8); 2] = [(16, 64), (2, 4)];
+const BOXES: [(u8, u8); 3] = [(2, 4), (6, 16), (16, 64)];
 /// The lengths of the logs, each with how many runs are made to find the quickest.
 const LENGTHS: [(u32, u32); 3] = [(10_000, 10), (100_000, 5), (1_000_000, 3)];
 const SEED: u64 = 1;
 
-/// The least times of both programs for one log.
+/// A program and its words.
+type Program = [OsString];
+
+/// The least times for one log: of this replay, of the other, and of the other report.
 struct Times {
     events: u32,
     this: Duration,
     other: Duration,
+    report: Duration,
 }
 
-/// Checks that both programs give the same lines, times them and prints the table.
-/// False, and no more of the table, if their lines differ.
-pub fn bench(program: &[OsString], report: &mut impl Write) -> io::Result<bool> {
-    let this = [std::env::current_exe()?.into_os_string(), "replay".into()];
+/// Checks that both programs give the same lines and the same sheet, times them and prints the
+/// table. False, and no more of the table, if they differ.
+pub fn bench(replay: &OsString, report: &OsString, out: &mut impl Write) -> io::Result<bool> {
+    let own = |name: &str| -> io::Result<[OsString; 2]> {
+        Ok([std::env::current_exe()?.into_os_string(), name.into()])
+    };
+    let (this, this_report) = (own("replay")?, own("report")?);
+    let (other, other_report) = (std::slice::from_ref(replay), std::slice::from_ref(report));
     let folder = Folder::new("bench")?;
     let mut growth = Vec::new();
     let columns = "  m  n    events  accepted  waited  this ev/s  other ev/s  other/this";
-    writeln!(report, "{columns}")?;
+    writeln!(out, "{columns}  report ev/s  report's time/replay's")?;
     for (m, n) in BOXES {
         let mut all_times = Vec::new();
         for (events, runs) in LENGTHS {
             let size = Size::new(m, n, events);
             let log = folder.path().join(format!("{m}-{n}-{events}"));
             fs::write(&log, make(SEED, "busy", size).unwrap_or_default())?;
-            if lines_of(&this, &log)? != lines_of(program, &log)? {
-                writeln!(report, "m {m}, n {n}, {events} events: the lines differ")?;
+            if lines_of(&this, &log)? != lines_of(other, &log)? {
+                writeln!(out, "m {m}, n {n}, {events} events: the lines differ")?;
                 return Ok(false);
             }
-            let times = least_times(&this, program, &log, events, runs)?;
-            print_row(report, size, &Shares::of_log(&log)?, &times)?;
+            if lines_of(&this_report, &log)? != lines_of(other_report, &log)? {
+                writeln!(out, "m {m}, n {n}, {events} events: the sheets differ")?;
+                return Ok(false);
+            }
+            let times = least_times(&this, other, other_report, &log, events, runs)?;
+            print_row(out, size, &Shares::of_log(&log)?, &times)?;
             all_times.push(times);
         }
         growth.push((m, n, all_times));
     }
     writeln!(
-        report,
-        "The lines of both programs are the same for all of these logs."
+        out,
+        "The lines and the sheets of both programs are the same for all of these logs."
     )?;
     for (m, n, times) in growth {
-        print_growth(report, m, n, &times)?;
+        print_growth(out, m, n, &times)?;
     }
     Ok(true)
 }
 
 fn print_row(out: &mut impl Write, size: Size, shares: &Shares, times: &Times) -> io::Result<()> {
-    let this = f64::from(times.events) / times.this.as_secs_f64();
-    let other = f64::from(times.events) / times.other.as_secs_f64();
+    let a_second = |time: Duration| f64::from(times.events) / time.as_secs_f64();
+    let (this, other, report) = (
+        a_second(times.this),
+        a_second(times.other),
+        a_second(times.report),
+    );
     let (accepted, waited) = (shares.accepted(), shares.waited());
     write!(
         out,
@@ -71,7 +87,8 @@ fn print_row(out: &mut impl Write, size: Size, shares: &Shares, times: &Times) -
         size.processors, size.tasks, size.events
     )?;
     write!(out, "  {accepted:>7.1}%  {waited:>5.1}%")?;
-    writeln!(out, "  {this:>9.0}  {other:>10.0}  {:>10.2}", other / this)?;
+    write!(out, "  {this:>9.0}  {other:>10.0}  {:>10.2}", other / this)?;
+    writeln!(out, "  {report:>11.0}  {:>22.2}", other / report)?;
     out.flush()
 }
 
@@ -94,8 +111,9 @@ fn print_growth(out: &mut impl Write, m: u8, n: u8, times: &[Times]) -> io::Resu
 
 /// The quickest of several runs of each program, taken in turn.
 fn least_times(
-    this: &[OsString],
-    other: &[OsString],
+    this: &Program,
+    other: &Program,
+    report: &Program,
     log: &Path,
     events: u32,
     runs: u32,
@@ -104,16 +122,18 @@ fn least_times(
         events,
         this: Duration::MAX,
         other: Duration::MAX,
+        report: Duration::MAX,
     };
     for _ in 0..runs {
         times.this = times.this.min(time_of(this, log)?);
         times.other = times.other.min(time_of(other, log)?);
+        times.report = times.report.min(time_of(report, log)?);
     }
     Ok(times)
 }
 
 /// The time of one run as a process of its own, which writes to nowhere.
-fn time_of(program: &[OsString], log: &Path) -> io::Result<Duration> {
+fn time_of(program: &Program, log: &Path) -> io::Result<Duration> {
     let mut command = Command::new(&program[0]);
     command
         .args(&program[1..])
@@ -126,7 +146,7 @@ fn time_of(program: &[OsString], log: &Path) -> io::Result<Duration> {
     Ok(start.elapsed())
 }
 
-fn lines_of(program: &[OsString], log: &Path) -> io::Result<Vec<u8>> {
+fn lines_of(program: &Program, log: &Path) -> io::Result<Vec<u8>> {
     let mut command = Command::new(&program[0]);
     command
         .args(&program[1..])

@@ -15,7 +15,8 @@
 //! - `second compare PROGRAM [ARGS...]` compares another replay program with this one.
 //! - `second sheets PROGRAM [ARGS...]` compares another report program with this one.
 //! - `second sums PROGRAM [ARGS...]` compares another sum program with this one.
-//! - `second bench PROGRAM [ARGS...]` times another replay program against this one.
+//! - `second bench REPLAY REPORT` times another replay program against this one, and its report
+//!   program beside it.
 //! - `second slowly PROGRAM [ARGS...]` runs a program with streams that do not block, slowly.
 //! - `second help`, `--help` and `-h` print the use; behind a subcommand, its own.
 //!

@@ -85,9 +85,14 @@ pub const SUBCOMMANDS: [Subcommand; 12] = [
     },
     Subcommand {
         name: "bench",
-        words: "PROGRAM [ARGS...]",
-        does: "times another replay program against this one",
-        run: |words| Ok(bench::bench(program(words)?, &mut in_lines())?),
+        words: "REPLAY REPORT",
+        does: "times another replay program against this one, and its report program beside it",
+        run: |words| {
+            let [replay, report] = program(words)? else {
+                return Err(Stop::Called("REPLAY and REPORT are wanted".to_string()));
+            };
+            Ok(bench::bench(replay, report, &mut in_lines())?)
+        },
     },
     Subcommand {
         name: "slowly",

@@ -6,3 +6,4 @@ pub mod Rows
 pub mod Listing
 pub mod Inside
 pub mod Booked
+pub mod Entering

@@ -226,8 +226,8 @@ fn with_figures(t: Tally, figures: [Figures; 64]) -> Tally
     }
 }
 
-// Books an accepted event. Where a total would pass, with 41, the tally and the row are as they were.
-pub fn enter(t: Tally, row: &mut [u32], n: Noted, list: &Admitted) -> WithEntered
+// Books any items.
+fn enter_all(t: Tally, row: &mut [u32], n: Noted, list: &Admitted) -> WithEntered
     ensures is { λ x. ⌜ x ≡ entering t (listedItems n (now (list .entry))) ⌝ }
     ensures writes { λ x. ⌜ now (row .exit) ≡ rowEntering t (listedItems n (now (list .entry))) (now (row .entry)) ⌝ }
 {
@@ -246,4 +246,39 @@ pub fn enter(t: Tally, row: &mut [u32], n: Noted, list: &Admitted) -> WithEntere
         number: 0,
         tally: tally,
     }
+}
+
+// Books a commit alone, in the figures of its task.
+fn enter_own(mut t: Tally, task: u8, waited: bool) -> WithEntered
+    ensures { λ x. ⌜ x ≡ entering t (commit (task % 64) waited ∷ []) ⌝ }
+{
+    let i = (task % 64) as usize;
+    let f = t.figures[i];
+    let x = with_commit(f, waited);
+    if !x.fits {
+        return WithEntered {
+            number: 41,
+            tally: t,
+        };
+    }
+    let after = x.figures;
+    t.figures[i] = after;
+    WithEntered {
+        number: 0,
+        tally: t,
+    }
+}
+
+// Books an accepted event. Where a total would pass, with 41, the tally and the row are as they were. Most that book anything are a commit that admits nobody.
+pub fn enter(t: Tally, row: &mut [u32], n: Noted, list: &Admitted) -> WithEntered
+    ensures is { λ x. ⌜ x ≡ entering t (listedItems n (now (list .entry))) ⌝ }
+    ensures writes { λ x. ⌜ now (row .exit) ≡ rowEntering t (listedItems n (now (list .entry))) (now (row .entry)) ⌝ }
+{
+    if !n.commits {
+        return enter_all(t, row, n, list);
+    }
+    if n.admitted != 0 {
+        return enter_all(t, row, n, list);
+    }
+    enter_own(t, n.task, n.waited)
 }

@@ -1,81 +1,43 @@
--- `tally::entry::enter` meets its contract: with 41 nothing changes, and else the items are in the figures and their waits in the row. Assumes nothing.
-use Prim.Native.Nat.{ℕ, min}
-use mathlib.Core.Path.{_≡_, sym, ap, ap₂, _∙_}
-use mathlib.Core.Bool.{Bool, true, false, cond}
+-- `tally::entry::enter` meets its contract: a commit that admits nobody is booked alone, and anything else whole. Assumes nothing.
+use mathlib.Core.Path.{_≡_, sym, ap, _∙_}
 use mathlib.Core.List.{List}
+use native.Mathlib.Omega.{arith}
 use borrow.Author.Needs.{needs}
-use borrow.Author.Tests.{not-true, not-false}
-use Rattle.report.specs.declared.Figures.{Figures}
-use Rattle.report.specs.declared.Tally.{Tally}
-use Rattle.report.specs.Items.{Item, entered, enterable, waitsBooked, waitsIn, written}
-use Rattle.report.specs.Booking.{withFigures}
-use Rattle.tally.specs.declared.WithEntered.{WithEntered}
-use Rattle.tally.specs.Listed.{listedWaits, listedItems, entering, rowEntering}
-use Rattle.tally.proofs.Laws.Rows.{listed-waits}
+use borrow.Author.Tests.{not-false}
+use Rattle.report.specs.Items.{Item}
+use Rattle.tally.specs.Listed.{entering, rowEntering}
+use Rattle.tally.proofs.Laws.Entering.{only-own, own-row}
 use Rattle.tally.proofs.entry.enter.Statement.{statement}
 use Rattle.tally.proofs.entry.enter.Tie as tie
 
--- with 41, and with 0
-left-out : (t : Tally) (new : List Item) (row : List ℕ) → enterable (t .figures) new ≡ false
-    → (_≡_ {A = WithEntered} (record { number = 41; tally = t }) (entering t new)) × (row ≡ rowEntering t new row)
-unfolding entering rowEntering
-left-out t new row q = (
-  sym (ap (λ (b : Bool). record { number = cond b 0 41; tally = cond b (withFigures t (entered (t .figures) new)) t }) q),
-  sym (ap (λ (b : Bool). cond b (written row (waitsBooked (t .figures)) (waitsIn new)) row) q),
-)
-
-taken-in : (t : Tally) (new : List Item) (row : List ℕ) → enterable (t .figures) new ≡ true
-    → (_≡_ {A = WithEntered} (record { number = 0; tally = withFigures t (entered (t .figures) new) }) (entering t new))
-    × (written row (waitsBooked (t .figures)) (waitsIn new) ≡ rowEntering t new row)
-unfolding entering rowEntering
-taken-in t new row q = (
-  sym (ap (λ (b : Bool). record { number = cond b 0 41; tally = cond b (withFigures t (entered (t .figures) new)) t }) q),
-  sym (ap (λ (b : Bool). cond b (written row (waitsBooked (t .figures)) (waitsIn new)) row) q),
-)
-
-enter-items-requires : tie.Need-enter-items-requires
-enter-items-requires c κs = search needs
-
-returns : tie.Need-returns
-returns c =
-    let x = c .before .before .enter-items in
-    let a = c .before .before .before .before .before .args in
-    left-out (a .t) (listedItems (a .n) (a .list .now)) (a .row .now) (sym (x .ensures .0) ∙ not-true (x .result .fits) (c .if1 .taken))
-
-waits-booked-requires : tie.Need-waits-booked-requires
-waits-booked-requires c κs = search needs
-
-write-waits-requires : tie.Need-write-waits-requires
-write-waits-requires c κs = search needs
-
-with-figures-requires : tie.Need-with-figures-requires
-with-figures-requires c κs = search needs
+enter-all-requires : tie.Need-enter-all-requires
+enter-all-requires c κs = search needs
 
 same-length : tie.Need-same-length
 same-length c = search needs
 
+returns : tie.Need-returns
+returns c = search needs
+
+enter-all-requires-2 : tie.Need-enter-all-requires-2
+enter-all-requires-2 c κs = search needs
+
+same-length-2 : tie.Need-same-length-2
+same-length-2 c = search needs
+
 returns-2 : tie.Need-returns-2
-returns-2 c =
-    let w = c .before .before .before .before in
-    let y = w .before .before .before in
-    let x = y .before .before .enter-items in
-    let a = y .before .before .before .before .before .args in
-    let new = listedItems (a .n) (a .list .now) in
-    let fit : x .result .fits ≡ true = not-false (x .result .fits) (y .if1 .left) in
-    let is = taken-in (a .t) new (a .row .now) (sym (x .ensures .0) ∙ fit) in (
-      ap (λ (t : Tally). record { number = 0; tally = t }) (c .with-figures .ensures ∙ ap (withFigures (a .t)) (x .ensures .1 fit)) ∙ is .0,
-      w .write-waits .ensures
-          ∙ ap₂ (λ (n : ℕ) (ws : List ℕ). written (a .row .now) n ws) (w .before .waits-booked .ensures .0) (sym (listed-waits (a .n) (a .list .now))) ∙ is .1,
+returns-2 c = search needs
+
+enter-own-requires : tie.Need-enter-own-requires
+enter-own-requires c κs = search needs
+
+returns-3 : tie.Need-returns-3
+returns-3 c =
+    let a = c .before .before .before .before .before .before .args in
+    let own = sym (only-own (a .n) (a .list .now) (not-false (a .n .commits) (search needs)) (omega arith)) in (
+      c .enter-own .ensures ∙ ap (entering (a .t)) own,
+      own-row (a .t) _ _ (a .row .now) ∙ ap (λ (new : List Item). rowEntering (a .t) new (a .row .now)) own,
     )
 
 pub enter-spec : {M : Type 1} → statement M
-enter-spec =
-    tie.close
-    (tie.spec
-    enter-items-requires
-    returns
-    waits-booked-requires
-    write-waits-requires
-    with-figures-requires
-    same-length
-    returns-2)
+enter-spec = tie.close (tie.spec enter-all-requires same-length returns enter-all-requires-2 same-length-2 returns-2 enter-own-requires returns-3)

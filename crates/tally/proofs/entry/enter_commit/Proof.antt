@@ -9,18 +9,9 @@ use Rattle.report.specs.declared.Figures.{Figures}
 use Rattle.report.specs.Items.{commit, figuresAt, entered, enterable}
 use Rattle.tally.specs.declared.item.Counted.{Counted}
 use Rattle.tally.specs.Parts.{counted}
-use Rattle.tally.proofs.Laws.Counted.{counted-is}
-use Rattle.tally.proofs.Laws.Entered.{enterable-one, entered-one}
+use Rattle.tally.proofs.Laws.Entering.{one-entered}
 use Rattle.tally.proofs.entry.enter_commit.Statement.{statement}
 use Rattle.tally.proofs.entry.enter_commit.Tie as tie
-
--- the figures of its task with it, and whether it fits
-one-entered : (all : List Figures) (i : ℕ) (waited : Bool) (made : Counted) → made ≡ counted (figuresAt all i) (commit i waited)
-    → (made .fits ≡ enterable all (commit i waited ∷ [])) × (made .fits ≡ true → set all i (made .figures) ≡ entered all (commit i waited ∷ []))
-one-entered all i waited made is = (
-  ap (λ (x : Counted). x .fits) is ∙ sym (enterable-one all (commit i waited)),
-  λ yes. ap (λ (f : Figures). set all i f) (counted-is (figuresAt all i) (commit i waited) made is yes) ∙ sym (entered-one all (commit i waited)),
-)
 
 cast-i : tie.Need-cast-i
 cast-i c = search needs

@@ -8,7 +8,7 @@ use native.Mathlib.Nat.{lt-of-lt-of-le, le-trans, le-of-eq, ne-of-gt}
 use native.Mathlib.Omega.{arith}
 use lib.Dec.{eqb, ltb}
 use lib.ListN.{getD}
-use borrow.Author.Tests.{eq-eqb, lt-ltb}
+use borrow.Author.Tests.{eq-eqb, lt-ltb, not-true}
 use Rattle.objects.specs.Below.{sum}
 use Rattle.objects.specs.Objects.{Sets, clash}
 use Rattle.objects.proofs.Laws.Below.{not-both, and-both, or-false-left, or-false-right, sum-mono}
@@ -16,7 +16,7 @@ use Rattle.objects.proofs.Laws.Clash.{clash-plain}
 use Rattle.rules.specs.declared.Wait.{Wait}
 use Rattle.rules.specs.declared.State.{State}
 use Rattle.rules.specs.declared.State.the-variants.{Absent, Plain, Waiting, Executing}
-use Rattle.rules.specs.declared.Terms.{Terms}
+use Rattle.rules.specs.declared.Arrival.the-variants.{At}
 use Rattle.rules.specs.declared.Task.{Task}
 use Rattle.rules.specs.declared.Session.{Session}
 use Rattle.rules.specs.declared.Event.{Event}
@@ -24,26 +24,26 @@ use Rattle.rules.specs.declared.Said.{Said}
 use Rattle.rules.specs.declared.Admission.{Admission}
 use Rattle.rules.specs.declared.Answer.{Answer}
 use Rattle.rules.specs.Answers.{number}
-use Rattle.rules.specs.Ranking.{Ranking, Strict, Stays}
-use Rattle.rules.specs.Tasks.{isWaiting, isExecuting, allowed, known, taskAt, stateAt, executing, setsAt}
-use Rattle.rules.specs.Setup.{termsNumber}
+use Rattle.rules.specs.Ranking.{Ranking, Ranked, Strict, Stays}
+use Rattle.rules.specs.Tasks.{isAbsent, isWaiting, isExecuting, allowed, known, taskAt, stateAt, executing, setsAt}
 use Rattle.rules.specs.Room.{ran}
 use Rattle.rules.specs.Events.{raisedState, raisedTask, step}
 use Rattle.rules.specs.Scan.{noAdmission, admission}
 use Rattle.rules.specs.Sum.{share, bound, summed}
 use Rattle.rules.specs.Reachable.{Sound}
 use Rattle.rules.specs.History.{Call, heard, commits, waitLength, during, passes, passed, reruns, retried}
-use Rattle.rules.specs.Demand3.{Run, begun, called, SameSets, FreshStarts, RunSound, ClashesFit, commitsIn, OnceRunning, HeldBack, Counted, WaitsCounted, AdmittedCounted, Bounded, AdmittedWithin, RunningApart, AsTold}
-use Rattle.rules.proofs.Laws.Numbers.{must, must-not, allowed-is, allowed-bounds}
+use Rattle.rules.specs.Demand3.{Run, begun, called, SameSets, FreshStarts, RunSound, ClashesFit, commitsIn, OnceRunning, HeldBack, Counted, WaitsCounted, AdmittedCounted, Bounded, AdmittedWithin, RunningApart, AsTold, presentAt, JobStays, RankStays, RankedAsSaid}
+use Rattle.rules.proofs.Laws.Numbers.{allowed-is}
 use Rattle.rules.proofs.Laws.Keeping.{kept-sets}
 use Rattle.rules.proofs.Laws.Listed.{Settled, Each}
+use Rattle.rules.proofs.Ranking.{ranking-agrees}
 use Rattle.rules.proofs.Contest.{blocked-plain}
-use Rattle.rules.proofs.Fresh.{fresh-sound, fresh-absent}
-use Rattle.rules.proofs.Events.{step-sound}
+use Rattle.rules.proofs.Fresh.{fresh-sound, fresh-absent, period-bounds}
+use Rattle.rules.proofs.Events.{same-tick, step-sound}
 use Rattle.rules.proofs.Moves.{Own, arrives, runs, waits, commits as commitsOwn, finishes, passedOver, Moved, Taken, refuses, accepts, taken}
 use Rattle.rules.proofs.Ran.{retried-fewer}
 use Rattle.rules.proofs.Jobs.{limited-share}
-use Rattle.rules.proofs.Known.{Known, commitsOf, arrivalsOf, moved-known, run-known}
+use Rattle.rules.proofs.Known.{Known, commitsOf, arrivalsOf, job-after, moved-known, run-known}
 
 -- ---- a start
 
@@ -79,7 +79,7 @@ module _ (rank : Ranking) (s : Session) (e : Event) (a : Answer) (s₁ : Session
       was : {state : State} → taskAt s (e .task) .state ≡ state → isExecuting state ≡ true
       was q = ap isExecuting (sym q) ∙ ap (executing s) (sym p) ∙ runs-before
 
-      go : {said : Said} {u : Task} → Own (taskAt s (e .task)) e said u → ⊥
+      go : {said : Said} {u : Task} → Own (s .mode) (taskAt s (e .task)) e said u → ⊥
       go (arrives kind q late) = false≢true (was q)
       go (runs kind q) = false≢true (was q)
       go (waits kind q b k h) = false≢true (was q)
@@ -191,12 +191,6 @@ sound-known rank s i p l =
     (and-both (allowed 16 (s .m)) (allowed 64 (s .n)) (allowed-is 16 (s .m) (ne-of-gt (p .m-low)) (p .m-high)) (allowed-is 64 (s .n) (ne-of-gt (p .n-low)) (p .n-high)))
     (lt-ltb i (s .n) l)
 
--- a period that a setup allows is no 0
-positive : (t : Terms) → termsNumber t ≡ 0 → 0 < t .period
-positive t e =
-    let priority = must-not (eqb (t .priority) 0) (cond (allowed 86400000 (t .period)) 0 13) 12 (omega arith) e in
-    allowed-bounds 86400000 (t .period) (must (allowed 86400000 (t .period)) 0 13 (omega arith) (priority .1) .0) .0
-
 pub bounded : Bounded
 unfolding summed bound
 bounded rank strict stays start s calls begins run i l = go (sound-known rank s i (p .sound) l)
@@ -213,7 +207,7 @@ bounded rank strict stays start s calls begins run i l = go (sound-known rank s 
         pick : (b : Bool) → cond b 0 (commitsOf j i calls) ≤ cond b 0 (share length (taskAt s j .terms))
         pick true = le-of-eq refl
         pick false =
-            limited-share (taskAt s j .terms) (commitsOf j i calls) (arrivalsOf j i calls) length (positive (taskAt s j .terms) (p .sound .terms j lj))
+            limited-share (taskAt s j .terms) (commitsOf j i calls) (arrivalsOf j i calls) length (period-bounds (taskAt s j .terms) (p .sound .terms j lj) .0)
             (p .limited i j l lj)
 
     at-most : passed i calls ≤ bound s i length
@@ -250,3 +244,28 @@ running-apart rank strict stays start s calls begins run =
 
 pub as-told : AsTold
 as-told rank strict stays start s calls begins run i l = run-known rank strict stays start s calls begins run .follows i l .told
+
+-- ---- ranks
+
+pub rank-stays : RankStays
+rank-stays rank strict stays start s calls begins run e =
+    go (step rank s e) (taken rank strict stays s e (run-sound rank strict stays start s calls begins run))
+  where
+    go : (a : Answer) → Taken rank s e a → JobStays s (a .session)
+    go a (refuses k given) i l here still = (refl, refl)
+    go a (accepts _ s₁ moved settled) i l here still =
+        job-after rank stays s e a s₁ moved settled i l (not-true (isAbsent (stateAt s i)) here) (not-true (isAbsent (stateAt (a .session) i)) still)
+
+pub ranked-as-said : RankedAsSaid
+ranked-as-said rank strict stays start s calls begins run i j a b li lj here there at-a at-b p q =
+    ranking-agrees (s .mode) (taskAt s i) (taskAt s j) a b i j (ranks i a li here at-a) (ranks j b lj there at-b) p q
+    (lt-of-lt-of-le li (sound .n-high)) (lt-of-lt-of-le lj (sound .n-high))
+  where
+    sound : Sound rank s
+    sound = run-sound rank strict stays start s calls begins run
+
+    -- its rank is that of its last arrival
+    ranks : (i a : ℕ) → i < s .n → presentAt s i ≡ true → taskAt s i .arrival ≡ At a → Ranked (s .mode) (taskAt s i) a
+    ranks i a l here at-a =
+        let job = sound .present i l (not-true (isAbsent (stateAt s i)) here) in
+        rw (same-tick (job .0) a (sym (job .1) ∙ at-a)) (job .2)

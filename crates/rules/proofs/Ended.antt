@@ -40,7 +40,7 @@ raised-waiting hadRun t true = go (t .state)
 raised-waiting hadRun t false = refl
 
 -- one whose own event leaves it not waiting did not wait before it, and is not answered with wait
-own-over : {t u : Task} {e : Event} {said : Said} → Own t e said u → isWaiting (u .state) ≡ false
+own-over : {mode : ℕ} {t u : Task} {e : Event} {said : Said} → Own mode t e said u → isWaiting (u .state) ≡ false
     → (isWaiting (t .state) ≡ false) × (isWait said ≡ false)
 own-over (arrives kind was late) n = (ap isWaiting was, refl)
 own-over (runs kind was) n = (ap isWaiting was, refl)

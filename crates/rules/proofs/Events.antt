@@ -4,7 +4,7 @@ use Prim.Native.Nat.{ℕ, _+_, _*_, _≤_, _<_, zero-le}
 use mathlib.Core.Path.{_≡_, refl, sym, ap, _∙_}
 use mathlib.Core.Logic.{_⊎_, inl, inr, _≢_}
 use mathlib.Core.List.{List}
-use mathlib.Core.Bool.{Bool, true, false, cond, false≢true}
+use mathlib.Core.Bool.{Bool, true, false, cond, false≢true, true≢false}
 use native.Mathlib.Nat.{zero-add, le-trans, le-of-eq, lt-of-lt-of-le}
 use native.Mathlib.Omega.{arith}
 use lib.Dec.{ltb}
@@ -51,7 +51,7 @@ executing-is Plain e = absurd (false≢true e)
 executing-is (Waiting w) e = absurd (false≢true e)
 executing-is Executing e = refl
 
-same-tick : (tick a : ℕ) → At tick ≡ At a → a ≡ tick
+pub same-tick : (tick a : ℕ) → At tick ≡ At a → a ≡ tick
 same-tick tick a e = cc
 
 module _ (rank : Ranking) (strict : Strict rank) (stays : Stays rank) (s : Session) (sound : Sound rank s) (tick i : ℕ) where
@@ -79,16 +79,17 @@ module _ (rank : Ranking) (strict : Strict rank) (stays : Stays rank) (s : Sessi
       let here = must (isAbsent (stateAt s i)) (cond late 5 0) 4 (omega arith) (arrive-timely z .rest-zero) in
       (absent-is (stateAt s i) (here .0), must-not late 0 5 (omega arith) (here .1) .0)
 
-  arrive-sound : arriveNumber s tick i ≡ 0 → Sound rank (withTask (stamped s tick) i (arrived (taskAt s i) tick))
+  arrive-sound : arriveNumber s tick i ≡ 0 → Sound rank (withTask (stamped s tick) i (arrived (s .mode) (taskAt s i) tick))
   arrive-sound z =
-      changed-sound sound ok (table-same sound i) (rows-same sound i) (arrived (taskAt s i) tick) stays (ap isExecuting was) (inl (ap isPlain was)) refl
+      changed-sound sound ok (table-same sound i) (rows-same sound i) (arrived (s .mode) (taskAt s i) tick) stays (ap isExecuting was) (inl (ap isPlain was)) refl
       (record {
         terms = refl;
         releases = zero-le;
         clashes = zero-le;
         arrivals = λ a e. le-of-eq (same-tick tick a e);
+        present = λ e. (tick, refl, refl);
         emptied = λ g l w x. empty-before (ok .below) (ap isWaiting was) (ap isExecuting was) g l;
-        gone = λ e. refl;
+        gone = λ e. absurd (false≢true e);
         fits = λ e. absurd (false≢true e);
         apart = λ e. absurd (false≢true e);
       })
@@ -153,6 +154,7 @@ module _ (rank : Ranking) (strict : Strict rank) (stays : Stays rank) (s : Sessi
         arrivals = arrival-before (release-timely .below) (release-timely .tick);
         emptied = λ g l w x.
             elim busy [ inl y ↦ absurd (not-both (isWaiting state) y w) | inr y ↦ absurd (not-both (isExecuting state) y x) ];
+        present = λ e. sound .present i (release-timely .below) (ap isAbsent (plain-is (stateAt s i) (release-plain .0)));
         gone = λ e. absurd (not-both (isAbsent state) e here);
         fits = λ e. room-fewer rank s i (release-room .0);
         apart = λ e j l d x.
@@ -188,6 +190,10 @@ module _ (rank : Ranking) (strict : Strict rank) (stays : Stays rank) (s : Sessi
   unfolding commitNumber
   commit-timely z = timely s tick i commit-rest z
 
+  -- it was executing
+  pub commit-was : commitNumber s tick i ≡ 0 → stateAt s i ≡ Executing
+  commit-was z = executing-is (stateAt s i) (must (isExecuting (stateAt s i)) 0 4 (omega arith) (commit-timely z .rest-zero) .0)
+
   raised-beside : TableBeside s i (raised (ran rank s) s (setsAt s i) (s .n))
   raised-beside = record {
     size = raised-size (ran rank s) s (setsAt s i) (s .n) ∙ sound .tasks;
@@ -207,6 +213,7 @@ module _ (rank : Ranking) (strict : Strict rank) (stays : Stays rank) (s : Sessi
         releases = sound .releases i (ok .below);
         clashes = zero-le;
         arrivals = arrival-before (ok .below) (ok .tick);
+        present = λ e. sound .present i (ok .below) (ap isAbsent (commit-was z));
         emptied = λ g l w x. (emptied-row (s .reads) (sound .reads) (ok .below) g l, emptied-row (s .writes) (sound .writes) (ok .below) g l);
         gone = λ e. absurd (false≢true e);
         fits = λ e. absurd (false≢true e);
@@ -239,8 +246,9 @@ module _ (rank : Ranking) (strict : Strict rank) (stays : Stays rank) (s : Sessi
         releases = zero-le;
         clashes = zero-le;
         arrivals = arrival-before (ok .below) (ok .tick);
+        present = λ e. absurd (true≢false e);
         emptied = λ g l w x. empty-before (ok .below) (ap isWaiting was) (ap isExecuting was) g l;
-        gone = λ e. refl;
+        gone = λ e. (refl, refl);
         fits = λ e. absurd (false≢true e);
         apart = λ e. absurd (false≢true e);
       })

@@ -8,16 +8,17 @@ use native.Mathlib.Omega.{arith}
 use lib.Dec.{eqb}
 use lib.ListN.{length, getD, set, length-set, length-replicate, getD-replicate}
 use lib.Seq.{getD-set-same, getD-set-other}
-use borrow.Author.Tests.{eqb-true, eqb-false}
+use borrow.Author.Tests.{eqb-true, eqb-false, leb-true}
 use Rattle.objects.proofs.Laws.Below.{below-suc, not-both, count-none}
 use Rattle.rules.specs.declared.Arrival.the-variants.{Never, At}
+use Rattle.rules.specs.declared.Terms.{Terms}
 use Rattle.rules.specs.declared.Setup.{Setup}
 use Rattle.rules.specs.declared.Task.{Task}
-use Rattle.rules.specs.Ranking.{Ranking}
+use Rattle.rules.specs.Ranking.{Ranking, knownMode}
 use Rattle.rules.specs.Tasks.{isAbsent, isWaiting, isExecuting, waitOf, allowed, freshTask, noTask, taskAt, stateAt, waiting, executing}
 use Rattle.rules.specs.Setup.{termsAt, termsNumber, firstNumber, setupNumber, freshTasks, fresh}
 use Rattle.rules.specs.Reachable.{Sound, FreshSound}
-use Rattle.rules.proofs.Laws.Numbers.{must, allowed-bounds}
+use Rattle.rules.proofs.Laws.Numbers.{must, must-not, allowed-bounds}
 
 -- ---- a setup that is accepted
 
@@ -55,15 +56,31 @@ fresh-past u zero i h l = getD-replicate 64 i noTask noTask l
 fresh-past u (suc k) i h l =
     getD-set-other (freshTasks u k) k i (freshTask (termsAt u k)) noTask (ne-of-gt h) ∙ fresh-past u k i (le-of-lt h) l
 
+-- a period that a setup allows is no 0, and no more than a day
+pub period-bounds : (t : Terms) → termsNumber t ≡ 0 → (1 ≤ t .period) × (t .period ≤ 86400000)
+period-bounds t e =
+    let priority = must-not (eqb (t .priority) 0) (cond (allowed 86400000 (t .period)) 0 13) 12 (omega arith) e in
+    allowed-bounds 86400000 (t .period) (must (allowed 86400000 (t .period)) 0 13 (omega arith) (priority .1) .0)
+
 -- ---- the session
 
 module _ (rank : Ranking) (u : Setup) (good : setupNumber u ≡ 0) where
-  m-good : (allowed 16 (u .m) ≡ true) × (cond (allowed 64 (u .n)) (firstNumber u (u .n)) 11 ≡ 0)
-  unfolding setupNumber
-  m-good = must (allowed 16 (u .m)) (cond (allowed 64 (u .n)) (firstNumber u (u .n)) 11) 10 (omega arith) good
+  -- what is tried after 11, and after 10
+  abbrev after-n : ℕ
+  after-n = cond (knownMode (u .mode)) (firstNumber u (u .n)) 14
 
-  n-good : (allowed 64 (u .n) ≡ true) × (firstNumber u (u .n) ≡ 0)
-  n-good = must (allowed 64 (u .n)) (firstNumber u (u .n)) 11 (omega arith) (m-good .1)
+  abbrev after-m : ℕ
+  after-m = cond (allowed 64 (u .n)) after-n 11
+
+  m-good : (allowed 16 (u .m) ≡ true) × (after-m ≡ 0)
+  unfolding setupNumber
+  m-good = must (allowed 16 (u .m)) after-m 10 (omega arith) good
+
+  n-good : (allowed 64 (u .n) ≡ true) × (after-n ≡ 0)
+  n-good = must (allowed 64 (u .n)) after-n 11 (omega arith) (m-good .1)
+
+  mode-good : (knownMode (u .mode) ≡ true) × (firstNumber u (u .n) ≡ 0)
+  mode-good = must (knownMode (u .mode)) (firstNumber u (u .n)) 14 (omega arith) (n-good .1)
 
   n-bounds : (1 ≤ u .n) × (u .n ≤ 64)
   n-bounds = allowed-bounds 64 (u .n) (n-good .0)
@@ -94,7 +111,7 @@ module _ (rank : Ranking) (u : Setup) (good : setupNumber u ≡ 0) where
     m-high = m-bounds .1;
     n-low = n-bounds .0;
     n-high = n-bounds .1;
-    terms = λ i l. ap (λ (t : Task). termsNumber (t .terms)) (fresh-task i l) ∙ terms-good u (u .n) (n-good .1) i l;
+    terms = λ i l. ap (λ (t : Task). termsNumber (t .terms)) (fresh-task i l) ∙ terms-good u (u .n) (mode-good .1) i l;
     apart = λ i j li lj d x y. absurd (not-both (executing (fresh u) i) x (not-executing i li));
     fit = le-trans (le-of-eq (count-none (u .n) (executing (fresh u)) not-executing)) zero-le;
     held = λ i l w. absurd (not-both (waiting (fresh u) i) w (not-waiting i l));
@@ -102,8 +119,9 @@ module _ (rank : Ranking) (u : Setup) (good : setupNumber u ≡ 0) where
     clashes = λ i l. le-of-eq (ap (λ (t : Task). waitOf (t .state) .clashes) (fresh-task i l));
     arrivals = λ i a l e. absurd (never-at a (sym (ap (λ (t : Task). t .arrival) (fresh-task i l)) ∙ e));
     accepted = zero-le;
+    present = λ i l e. absurd (not-both (isAbsent (stateAt (fresh u) i)) (ap (λ (t : Task). isAbsent (t .state)) (fresh-task i l)) e);
     emptied = λ i g li lg w x. (getD-replicate 256 (i * 4 + g) 0 0 (omega arith), getD-replicate 256 (i * 4 + g) 0 0 (omega arith));
-    gone = λ i l a. ap (λ (t : Task). t .releases) (fresh-task i l);
+    gone = λ i l a. (ap (λ (t : Task). t .releases) (fresh-task i l), ap (λ (t : Task). t .rank) (fresh-task i l));
     past = λ i l h. fresh-past u (u .n) i l h;
   }
 
@@ -114,7 +132,11 @@ pub fresh-absent : (u : Setup) → setupNumber u ≡ 0 → (i : ℕ) → i < fre
 unfolding fresh
 fresh-absent u good i l = ap (λ (t : Task). isAbsent (t .state)) (fresh-task (λ t i. i) u good i l)
 
--- a setup that is accepted has no more tasks than the table
+-- a setup that is accepted has a known mode
+pub mode-within : (u : Setup) → setupNumber u ≡ 0 → u .mode ≤ 1
+mode-within u e = leb-true (u .mode) 1 (mode-good (λ t i. i) u e .0)
+
+-- and no more tasks than the table
 pub n-within : (u : Setup) → setupNumber u ≡ 0 → u .n ≤ 64
 unfolding fresh
 n-within u e = fresh-sound (λ t i. i) u e .n-high

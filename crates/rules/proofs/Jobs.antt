@@ -3,7 +3,7 @@
 use Prim.Native.Nat.{ℕ, zero, suc, _+_, _-_, _*_, _/_, _≤_, _<_, zero-le}
 use mathlib.Core.Path.{_≡_, refl, sym, ap, _∙_}
 use mathlib.Core.Logic.{_⊎_, inl, inr}
-use mathlib.Core.Bool.{Bool, true, false, cond, _||_, false≢true}
+use mathlib.Core.Bool.{Bool, true, false, cond, _||_, false≢true, true≢false}
 use native.Mathlib.Nat.{add-zero, mul-add, mul-one, add-mul, one-mul, mul-zero, zero-mul, mul-le-mul-left, le-trans, le-of-eq, le-div-iff-mul-le}
 use native.Mathlib.Omega.{arith}
 use borrow.Author.Tests.{ltb-false}
@@ -74,7 +74,7 @@ allows : (t : Task) (state : State) → t .state ≡ state → allowance t ≡ c
 allows t state e = ap (λ (x : State). cond (isAbsent x) (t .terms .transactions) (t .releases)) e
 
 module _ (t : Task) (e : Event) (C A b : ℕ) (live : Live t C A b) where
-  pub own-live : (said : Said) (u : Task) → Own t e said u → t .releases ≤ t .terms .transactions → b ≤ e .tick
+  pub own-live : {mode : ℕ} (said : Said) (u : Task) → Own mode t e said u → t .releases ≤ t .terms .transactions → b ≤ e .tick
       → Live u (C + one (isCommit (e .kind))) (A + one (isArrive (e .kind))) b
   own-live said u (arrives kind was late) few since =
       rw kind (record {
@@ -134,9 +134,19 @@ kin-admitted t u w e = record {
   as-absent = sym (waiting-busy (t .state) w .1);
 }
 
+-- the rank and the last arrival of a job
+abbrev pub SameJob : Task → Task → Type 0
+SameJob t u = (u .rank ≡ t .rank) × (u .arrival ≡ t .arrival)
+
 module _ (t u : Task) (k : Kin t u) where
   pub kin-terms : u .terms ≡ t .terms
   kin-terms = ap (λ (x : Task). x .terms) (k .is)
+
+  pub kin-job : SameJob t u
+  kin-job = (ap (λ (x : Task). x .rank) (k .is), ap (λ (x : Task). x .arrival) (k .is))
+
+  pub kin-absent : isAbsent (u .state) ≡ isAbsent (t .state)
+  kin-absent = ap (λ (x : Task). isAbsent (x .state)) (k .is) ∙ k .as-absent
 
   pub kin-ready : Ready t → Ready u
   kin-ready r = rw (k .is, k .as-busy, k .as-absent) r
@@ -144,19 +154,28 @@ module _ (t u : Task) (k : Kin t u) where
   pub kin-live : (C A b : ℕ) → Live t C A b → Live u C A b
   kin-live C A b p = rw (k .is) (record { jobs = rw (k .as-busy, k .as-absent) (p .jobs); spaced = p .spaced })
 
-pub own-ready : (t : Task) (e : Event) (said : Said) (u : Task) → Own t e said u → Ready u
+pub own-ready : {mode : ℕ} (t : Task) (e : Event) (said : Said) (u : Task) → Own mode t e said u → Ready u
 own-ready t e said u (arrives kind was late) = zero-le
 own-ready t e said u (runs kind was) = omega arith
 own-ready t e said u (waits kind was o k h) = omega arith
 own-ready t e said u (commits kind was) = zero-le
 own-ready t e said u (finishes kind was) = zero-le
 
-pub own-terms : (t : Task) (e : Event) (said : Said) (u : Task) → Own t e said u → u .terms ≡ t .terms
+pub own-terms : {mode : ℕ} (t : Task) (e : Event) (said : Said) (u : Task) → Own mode t e said u → u .terms ≡ t .terms
 own-terms t e said u (arrives kind was late) = refl
 own-terms t e said u (runs kind was) = refl
 own-terms t e said u (waits kind was o k h) = refl
 own-terms t e said u (commits kind was) = refl
 own-terms t e said u (finishes kind was) = refl
+
+-- the rank and the last arrival of a job stay while it is present
+pub own-job : {mode : ℕ} (t : Task) (e : Event) (said : Said) (u : Task) → Own mode t e said u → isAbsent (t .state) ≡ false → isAbsent (u .state) ≡ false
+    → SameJob t u
+own-job t e said u (arrives kind was late) here still = absurd (true≢false (ap isAbsent (sym was) ∙ here))
+own-job t e said u (runs kind was) here still = (refl, refl)
+own-job t e said u (waits kind was o k h) here still = (refl, refl)
+own-job t e said u (commits kind was) here still = (refl, refl)
+own-job t e said u (finishes kind was) here still = absurd (true≢false still)
 
 -- ---- at its end
 

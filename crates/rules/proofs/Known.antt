@@ -1,4 +1,4 @@
--- What is known at every place of a run: the session is sound, it is of the start's m and n, history says what it says, and while task i waits every task's commits
+-- What is known at every place of a run: the session is sound, it is of the start's m, n and mode, history says what it says, and while task i waits every task's commits
 -- and arrivals are within their bounds. A start has it and every call keeps it.
 use Prim.Native.Nat.{ℕ, _+_, _≤_, _<_, zero-le}
 use mathlib.Core.Path.{_≡_, refl, sym, ap, ap₂, subst, _∙_}
@@ -22,11 +22,11 @@ use Rattle.rules.specs.declared.Event.{Event}
 use Rattle.rules.specs.declared.Answer.{Answer}
 use Rattle.rules.specs.Answers.{isWait, number}
 use Rattle.rules.specs.Ranking.{Ranking, Strict, Stays}
-use Rattle.rules.specs.Tasks.{isWaiting, isExecuting, taskAt, stateAt}
+use Rattle.rules.specs.Tasks.{isAbsent, isWaiting, isExecuting, taskAt, stateAt}
 use Rattle.rules.specs.Room.{ran}
 use Rattle.rules.specs.Events.{refused, step}
 use Rattle.rules.specs.Reachable.{Sound}
-use Rattle.rules.specs.History.{Call, heard, tasksOf, names, accepted, by, arrives, commits, deferred, admits, isArrive, isCommit, isRelease, Stage, waits, executes, stageAfter, stage, isWaits, inWait, transaction, released, began, lasted, waitLength, during, passes, passed, lastArrival, retried}
+use Rattle.rules.specs.History.{Call, heard, tasksOf, names, accepted, by, arrives, commits, deferred, admits, isArrive, isCommit, isRelease, Stage, waits, executes, stageAfter, stage, isWaits, inWait, transaction, released, began, lasted, waitLength, during, passes, passed, lastArrival, ranked, retried}
 use Rattle.rules.specs.Demand3.{Start, Run, begun, called, stageOf}
 use Rattle.rules.proofs.Laws.Alike.{at-or-other}
 use Rattle.rules.proofs.Laws.Listed.{Settled, Each}
@@ -34,7 +34,7 @@ use Rattle.rules.proofs.Events.{absent-is, step-sound}
 use Rattle.rules.proofs.Moves.{passedOver, Moved, Taken, refuses, accepts, taken}
 use Rattle.rules.proofs.Ran.{ran-told}
 use Rattle.rules.proofs.Told.{Follows, during-goes, plus-none, no-wait, refused-follows, moved-follows, settled-follows}
-use Rattle.rules.proofs.Jobs.{Live, Limited, Ready, Kin, ready-live, nothing-limited, own-live, own-ready, own-terms, kin-refl, kin-trans, kin-raised, kin-admitted, kin-terms, kin-ready, kin-live, live-limited}
+use Rattle.rules.proofs.Jobs.{Live, Limited, Ready, Kin, ready-live, nothing-limited, own-live, own-ready, own-terms, SameJob, own-job, kin-refl, kin-trans, kin-raised, kin-admitted, kin-terms, kin-job, kin-absent, kin-ready, kin-live, live-limited}
 
 -- how often task j committed, and arrived, in task i's last wait
 abbrev pub commitsOf : ℕ → ℕ → List Call → ℕ
@@ -47,6 +47,7 @@ pub record Known (rank : Ranking) (start s : Session) (calls : List Call) : Type
   pub sound : Sound rank s
   pub m-same : s .m ≡ start .m
   pub n-same : s .n ≡ start .n
+  pub mode-same : s .mode ≡ start .mode
   pub follows : (i : ℕ) → i < s .n → Follows rank start s calls i
   pub ready : (i : ℕ) → i < s .n → Ready (taskAt s i)
   pub since : (i : ℕ) → i < s .n → inWait i calls ≡ true → began i calls ≤ s .tick
@@ -133,6 +134,7 @@ module _ (s : Session) (e : Event) (k : ℕ) (no : k ≢ 0) (calls : List Call) 
     sound = p .sound;
     m-same = p .m-same;
     n-same = p .n-same;
+    mode-same = p .mode-same;
     follows = λ i l. refused-follows rank start s e k no calls i (p .follows i l);
     ready = p .ready;
     since = λ i l w. rw (began-goes refusal calls i (rw unheard refl)) (p .since i l (waited i w));
@@ -206,6 +208,19 @@ module _ (rank : Ranking) (stays : Stays rank) (s : Session) (e : Event) (a : An
       (λ l. kin-terms (taskAt s₁ (e .task)) (taskAt s′ (e .task)) (kin-settled (e .task)) ∙ own-terms (taskAt s (e .task)) e (a .said) (taskAt s₁ (e .task)) (moved .own))
       (λ j d l. kin-terms (taskAt s j) (taskAt s′ j) (kin-other j l d))
 
+  -- a task that is present before and after has the same job
+  pub job-after : (j : ℕ) → j < s .n → isAbsent (stateAt s j) ≡ false → isAbsent (stateAt s′ j) ≡ false → SameJob (taskAt s j) (taskAt s′ j)
+  job-after =
+      at-or-other (e .task) (λ (j : ℕ). j < s .n → isAbsent (stateAt s j) ≡ false → isAbsent (stateAt s′ j) ≡ false → SameJob (taskAt s j) (taskAt s′ j))
+      (λ l here still.
+      let k = kin-settled (e .task) in
+      let u = taskAt s₁ (e .task) in
+      let v = taskAt s′ (e .task) in
+      let q = kin-job u v k in
+      let p = own-job (taskAt s (e .task)) e (a .said) u (moved .own) here (sym (kin-absent u v k) ∙ still) in
+      (q .0 ∙ p .0, q .1 ∙ p .1))
+      (λ j d l here still. kin-job (taskAt s j) (taskAt s′ j) (kin-other j l d))
+
   live-after : (C A b : ℕ) → b ≤ e .tick → (j : ℕ) → j < s .n → taskAt s j .releases ≤ taskAt s j .terms .transactions
       → Live (taskAt s j) C A b → Live (taskAt s′ j) (C + one (commits c j)) (A + one (arrives c j)) b
   live-after C A b since =
@@ -221,7 +236,7 @@ module _ (rank : Ranking) (stays : Stays rank) (s : Session) (e : Event) (a : An
     -- before its scan
     pub moved-known : (i : ℕ) → i < s .n → Follows rank start s₁ (record { event = e; said = a .said; admitted = [] } ∷ calls) i
     moved-known =
-        moved-follows rank start s e (a .said) s₁ moved calls (p .follows) (ran-told rank stays start s calls (p .m-same) (p .n-same) (λ j lj. p .follows j lj .told))
+        moved-follows rank start s e (a .said) s₁ moved calls (p .mode-same) (p .follows) (ran-told rank stays start s calls (p .m-same) (p .n-same) (λ j lj. p .follows j lj .told))
         (λ j lj. omega (arith, p .sound .clashes j lj, p .sound .accepted))
 
   module _ (start : Session) (calls : List Call) (p : Known rank start s calls) (sound : Sound rank s′) where
@@ -329,6 +344,7 @@ module _ (rank : Ranking) (stays : Stays rank) (s : Session) (e : Event) (a : An
       sound = sound;
       m-same = settled .kept .m ∙ moved .m-same ∙ p .m-same;
       n-same = n-now ∙ p .n-same;
+      mode-same = settled .kept .mode ∙ moved .mode-same ∙ p .mode-same;
       follows = λ i l. follows-after i (below l);
       ready = λ i l. ready-after (p .ready) i (below l);
       since = λ i l. since-after i (below l);
@@ -340,20 +356,22 @@ module _ (rank : Ranking) (stays : Stays rank) (s : Session) (e : Event) (a : An
 -- ---- a run
 
 start-known : (rank : Ranking) (s : Session) → Start rank s → Known rank s s []
-unfolding stage transaction released began lasted during passed retried lastArrival
+unfolding stage transaction released began lasted during passed retried lastArrival ranked
 start-known rank s start = record {
   sound = start .sound;
   m-same = refl;
   n-same = refl;
+  mode-same = refl;
   follows = λ i l. record {
     told = record {
       stands = ap stageOf (sym (gone i l));
       sets = λ b. absurd (false≢true (ap (λ (x : State). isWaiting x || isExecuting x) (sym (gone i l)) ∙ b));
       release = λ w q. absurd (no-wait (stateAt s i) w (ap isWaiting (gone i l)) q);
       length = λ w q. absurd (no-wait (stateAt s i) w (ap isWaiting (gone i l)) q);
-      releases = start .sound .gone i l (start .absent i l);
+      releases = start .sound .gone i l (start .absent i l) .0;
       terms = refl;
       arrival = refl;
+      rank = start .sound .gone i l (start .absent i l) .1;
     };
     clashes = λ w q. absurd (no-wait (stateAt s i) w (ap isWaiting (gone i l)) q);
     retries = λ w q. absurd (no-wait (stateAt s i) w (ap isWaiting (gone i l)) q);

@@ -23,19 +23,18 @@ use Rattle.rules.specs.declared.Said.the-variants.{Ok, Run, Wait}
 use Rattle.rules.specs.declared.Answer.{Answer}
 use Rattle.rules.specs.Answers.{number}
 use Rattle.rules.specs.Ranking.{Ranking, Strict, Stays}
-use Rattle.rules.specs.Tasks.{isExecuting, noTask, taskAt, stateAt, waiting, setsAt, setsOf, inState, withTask, withTasks, stamped}
+use Rattle.rules.specs.Tasks.{noTask, taskAt, stateAt, waiting, setsAt, setsOf, inState, withTask, withTasks, stamped}
 use Rattle.rules.specs.Room.{ran}
 use Rattle.rules.specs.Events.{early, arriveNumber, releaseNumber, commitNumber, finishNumber, refused, still, scanning, arrived, released, releasedInto, begins, waitSaid, raisedTask, raised, empty, committed, finished, step}
 use Rattle.rules.specs.History.{isRelease, isCommit}
 use Rattle.rules.specs.Reachable.{Sound}
 use Rattle.rules.proofs.Laws.Tasks.{task-replaced, task-other}
 use Rattle.rules.proofs.Laws.Rows.{Agree}
-use Rattle.rules.proofs.Laws.Numbers.{must}
 use Rattle.rules.proofs.Laws.Alike.{up, raised-size}
 use Rattle.rules.proofs.Laws.Steps.{arrive-cases, release-cases, commit-cases, finish-cases, step-cases}
 use Rattle.rules.proofs.Laws.Change.{rows-same, rows-replaced}
 use Rattle.rules.proofs.Laws.Listed.{Settled, none-settled, scan-settled}
-use Rattle.rules.proofs.Events.{plain-is, executing-is, arrive-timely, arrive-was, release-timely, release-plain, new-sets, commit-timely, finish-timely, finish-was}
+use Rattle.rules.proofs.Events.{plain-is, arrive-timely, arrive-was, release-timely, release-plain, new-sets, commit-timely, commit-was, finish-timely, finish-was}
 
 -- ---- whom a commit raises
 
@@ -74,13 +73,13 @@ module _ (hadRun : ℕ → Bool) (s : Session) (x : Sets) where
 
 -- ---- an accepted event, before its scan
 
--- how its own task moves
-pub data Own (t : Task) (e : Event) : Said → Task → Type 0 where
-  arrives : e .kind ≡ Arrive → t .state ≡ Absent → early (t .arrival) (t .terms .period) (e .tick) ≡ false → Own t e Ok (arrived t (e .tick))
-  runs : e .kind ≡ Release → t .state ≡ Plain → Own t e Run (released t Executing)
-  waits : e .kind ≡ Release → t .state ≡ Plain → (b k h : ℕ) → Own t e (Wait b k h) (released t (begins (e .tick)))
-  commits : e .kind ≡ Commit → t .state ≡ Executing → Own t e Ok (inState t Plain)
-  finishes : e .kind ≡ Finish → t .state ≡ Plain → Own t e Ok (finished t)
+-- how its own task moves, in this mode
+pub data Own (mode : ℕ) (t : Task) (e : Event) : Said → Task → Type 0 where
+  arrives : e .kind ≡ Arrive → t .state ≡ Absent → early (t .arrival) (t .terms .period) (e .tick) ≡ false → Own mode t e Ok (arrived mode t (e .tick))
+  runs : e .kind ≡ Release → t .state ≡ Plain → Own mode t e Run (released t Executing)
+  waits : e .kind ≡ Release → t .state ≡ Plain → (b k h : ℕ) → Own mode t e (Wait b k h) (released t (begins (e .tick)))
+  commits : e .kind ≡ Commit → t .state ≡ Executing → Own mode t e Ok (inState t Plain)
+  finishes : e .kind ≡ Finish → t .state ≡ Plain → Own mode t e Ok (finished t)
 
 -- a commit passes over those that wait and clash with it
 abbrev pub passedOver : Session → Event → ℕ → Bool
@@ -96,8 +95,9 @@ pub record Moved (rank : Ranking) (s : Session) (e : Event) (said : Said) (s′ 
   pub zero : number said ≡ 0
   pub m-same : s′ .m ≡ s .m
   pub n-same : s′ .n ≡ s .n
+  pub mode-same : s′ .mode ≡ s .mode
   pub tick-now : s′ .tick ≡ e .tick
-  pub own : Own (taskAt s (e .task)) e said (taskAt s′ (e .task))
+  pub own : Own (s .mode) (taskAt s (e .task)) e said (taskAt s′ (e .task))
   pub own-sets : isRelease (e .kind) ≡ true → Agree (setsAt s′ (e .task)) (setsOf (e .reads) (e .writes))
   pub other : (j : ℕ) → j < s .n → j ≢ e .task → taskAt s′ j ≡ beside rank s e j
   pub other-sets : (j : ℕ) → j ≢ e .task → Agree (setsAt s′ j) (setsAt s j)
@@ -132,7 +132,7 @@ module _ (rank : Ranking) (strict : Strict rank) (stays : Stays rank) (s : Sessi
   others-stay : (k : Kind) → e .kind ≡ k → isCommit k ≡ false → (j : ℕ) → taskAt s j ≡ beside rank s e j
   others-stay k p c j = rw (p, c)
 
-  arrive-taken : e .kind ≡ Arrive → arriveNumber s (e .tick) i ≡ 0 → Moved rank s e Ok (withTask (stamped s (e .tick)) i (arrived t (e .tick)))
+  arrive-taken : e .kind ≡ Arrive → arriveNumber s (e .tick) i ≡ 0 → Moved rank s e Ok (withTask (stamped s (e .tick)) i (arrived (s .mode) t (e .tick)))
   arrive-taken kind z =
       let ok = arrive-timely rank strict stays s sound (e .tick) i z in
       let was = arrive-was rank strict stays s sound (e .tick) i z in
@@ -142,15 +142,16 @@ module _ (rank : Ranking) (strict : Strict rank) (stays : Stays rank) (s : Sessi
         zero = refl;
         m-same = refl;
         n-same = refl;
+        mode-same = refl;
         tick-now = refl;
-        own = rw (task-replaced (stamped s (e .tick)) i (arrived t (e .tick)) (inside (ok .below))) (arrives kind (was .0) (was .1));
+        own = rw (task-replaced (stamped s (e .tick)) i (arrived (s .mode) t (e .tick)) (inside (ok .below))) (arrives kind (was .0) (was .1));
         own-sets = λ r. absurd (false≢true (rw kind at r));
-        other = λ j l d. task-other (stamped s (e .tick)) i j (arrived t (e .tick)) d ∙ others-stay Arrive kind refl j;
+        other = λ j l d. task-other (stamped s (e .tick)) i j (arrived (s .mode) t (e .tick)) d ∙ others-stay Arrive kind refl j;
         other-sets = same-sets;
       }
 
   release-taken : e .kind ≡ Release → releaseNumber rank s (e .tick) i ≡ 0 → (said : Said) (state : State) → number said ≡ 0
-      → (stateAt s i ≡ Plain → Own t e said (released t state)) → Moved rank s e said (releasedInto s (e .tick) i (e .reads) (e .writes) state)
+      → (stateAt s i ≡ Plain → Own (s .mode) t e said (released t state)) → Moved rank s e said (releasedInto s (e .tick) i (e .reads) (e .writes) state)
   release-taken kind z said state good moves =
       let ok = release-timely rank strict stays s sound (e .tick) i z (e .reads) (e .writes) in
       let was = plain-is (stateAt s i) (release-plain rank strict stays s sound (e .tick) i z (e .reads) (e .writes) .0) in
@@ -160,6 +161,7 @@ module _ (rank : Ranking) (strict : Strict rank) (stays : Stays rank) (s : Sessi
         zero = good;
         m-same = refl;
         n-same = refl;
+        mode-same = refl;
         tick-now = refl;
         own = rw (task-replaced (stamped s (e .tick)) i (released t state) (inside (ok .below))) (moves was);
         own-sets = λ r. new-sets rank strict stays s sound (e .tick) i z (e .reads) (e .writes);
@@ -170,7 +172,7 @@ module _ (rank : Ranking) (strict : Strict rank) (stays : Stays rank) (s : Sessi
   commit-taken : e .kind ≡ Commit → commitNumber s (e .tick) i ≡ 0 → Moved rank s e Ok (committed rank s (e .tick) i)
   commit-taken kind z =
       let ok = commit-timely rank strict stays s sound (e .tick) i z in
-      let was = executing-is (stateAt s i) (must (isExecuting (stateAt s i)) 0 4 (omega arith) (ok .rest-zero) .0) in
+      let was = commit-was rank strict stays s sound (e .tick) i z in
       let table = raised (ran rank s) s (setsAt s i) (s .n) in
       let up = withTasks (stamped s (e .tick)) table in
       let size : i < length table = omega (arith, inside (ok .below), raised-size (ran rank s) s (setsAt s i) (s .n)) in
@@ -180,6 +182,7 @@ module _ (rank : Ranking) (strict : Strict rank) (stays : Stays rank) (s : Sessi
         zero = refl;
         m-same = refl;
         n-same = refl;
+        mode-same = refl;
         tick-now = refl;
         own = rw (task-replaced up i (inState t Plain) size) (commits kind was);
         own-sets = λ r. absurd (false≢true (rw kind at r));
@@ -198,6 +201,7 @@ module _ (rank : Ranking) (strict : Strict rank) (stays : Stays rank) (s : Sessi
         zero = refl;
         m-same = refl;
         n-same = refl;
+        mode-same = refl;
         tick-now = refl;
         own = rw (task-replaced (stamped s (e .tick)) i (finished t) (inside (ok .below))) (finishes kind (finish-was rank strict stays s sound (e .tick) i z));
         own-sets = λ r. absurd (false≢true (rw kind at r));

@@ -1,4 +1,4 @@
--- Who ran just before a commit, by the calls, is who ran by the session: where history says each task's state, terms and last arrival. And of any calls, those that count
+-- Who ran just before a commit, by the calls, is who ran by the session: where history says each task's state, terms, last arrival and rank. And of any calls, those that count
 -- as retries are among those that count as clashes.
 use Prim.Native.Nat.{ℕ, _+_, _≤_, _<_, zero-le}
 use mathlib.Core.Path.{_≡_, refl, sym, ap, ap₂, _∙_}
@@ -57,7 +57,7 @@ ran-told rank stays start s calls m-same n-same told i l =
     counts f g same = ap (λ (k : ℕ). count k f) (sym n-same) ∙ count-ext (s .n) f g same
 
     ranked : (j : ℕ) → j < s .n → rankBy rank start calls j ≡ rankAt rank s j
-    ranked j lj = stays _ (taskAt s j) j (sym (told j lj .terms)) (sym (told j lj .arrival))
+    ranked j lj = stays _ (taskAt s j) j (sym (told j lj .terms)) (sym (told j lj .arrival)) (sym (told j lj .rank))
 
     above : (j : ℕ) → j < s .n → (inWait j calls && ltb (rankBy rank start calls j) (rankBy rank start calls i)) ≡ waitingAbove rank s i j
     above j lj = rw (in-wait start s calls j (told j lj), ranked j lj, ranked i l)

@@ -1,4 +1,4 @@
--- Equal setups start the same session: neither the number nor the fresh tasks look at more of a setup than its m, its n and the terms below n.
+-- Equal setups start the same session: neither the number nor the fresh tasks look at more of a setup than its m, its n, its mode and the terms below n.
 use Prim.Native.Nat.{ℕ, zero, suc, _<_}
 use mathlib.Core.Path.{_≡_, refl, ap, ap₂, _∙_}
 use mathlib.Core.List.{List}
@@ -37,17 +37,23 @@ same-terms t t′ e =
 pub record Same (u u′ : Setup) : Type 0 where
   pub m : u .m ≡ u′ .m
   pub n : u .n ≡ u′ .n
+  pub mode : u .mode ≡ u′ .mode
   pub terms : (i : ℕ) → i < u .n → sameTerms (termsAt u i) (termsAt u′ i) ≡ true
 
 pub same-parts : (u u′ : Setup) → sameSetup u u′ ≡ true → Same u u′
 unfolding sameSetup
 same-parts u u′ e =
     let each : ℕ → Bool = λ i. sameTerms (termsAt u i) (termsAt u′ i) in
-    let two = and-left (eqb (u .m) (u′ .m) && eqb (u .n) (u′ .n)) (all (u .n) each) e in
+    let a = eqb (u .m) (u′ .m) in
+    let b = eqb (u .n) (u′ .n) in
+    let d = eqb (u .mode) (u′ .mode) in
+    let three = and-left (a && b && d) (all (u .n) each) e in
+    let two = and-left (a && b) d three in
     record {
-      m = eqb-true (u .m) (u′ .m) (and-left (eqb (u .m) (u′ .m)) (eqb (u .n) (u′ .n)) two);
-      n = eqb-true (u .n) (u′ .n) (and-right (eqb (u .m) (u′ .m)) (eqb (u .n) (u′ .n)) two);
-      terms = all-at (u .n) each (and-right (eqb (u .m) (u′ .m) && eqb (u .n) (u′ .n)) (all (u .n) each) e);
+      m = eqb-true (u .m) (u′ .m) (and-left a b two);
+      n = eqb-true (u .n) (u′ .n) (and-right a b two);
+      mode = eqb-true (u .mode) (u′ .mode) (and-right (a && b) d three);
+      terms = all-at (u .n) each (and-right (a && b && d) (all (u .n) each) e);
     }
 
 module _ (u u′ : Setup) where
@@ -71,9 +77,9 @@ same-start u u′ e =
     let same = same-parts u u′ e in
     let terms : (i : ℕ) → i < u .n → termsAt u i ≡ termsAt u′ i = λ i l. same-terms (termsAt u i) (termsAt u′ i) (same .terms i l) in
     let first : firstNumber u (u .n) ≡ firstNumber u′ (u′ .n) = same-first u u′ (u .n) terms ∙ ap (firstNumber u′) (same .n) in
-    let number : setupNumber u ≡ setupNumber u′ = rw (first, same .m, same .n) in
+    let number : setupNumber u ≡ setupNumber u′ = rw (first, same .m, same .n, same .mode) in
     let tasks : freshTasks u (u .n) ≡ freshTasks u′ (u′ .n) = same-tasks u u′ (u .n) terms ∙ ap (freshTasks u′) (same .n) in
-    let whole : fresh u ≡ fresh u′ = rw (tasks, same .m, same .n) in
+    let whole : fresh u ≡ fresh u′ = rw (tasks, same .m, same .n, same .mode) in
     ap₂ (λ (k : ℕ) (s : Session). answer k s) number whole
   where
     answer : ℕ → Session → Started

@@ -14,17 +14,18 @@ use Rattle.objects.proofs.Laws.Below.{or-left, or-right}
 use Rattle.rules.specs.declared.Wait.{Wait}
 use Rattle.rules.specs.declared.State.{State}
 use Rattle.rules.specs.declared.State.the-variants.{Absent, Plain, Waiting, Executing}
+use Rattle.rules.specs.declared.Terms.{Terms}
 use Rattle.rules.specs.declared.Task.{Task}
 use Rattle.rules.specs.declared.Session.{Session}
 use Rattle.rules.specs.declared.Event.{Event}
 use Rattle.rules.specs.declared.Said.{Said}
 use Rattle.rules.specs.declared.Answer.{Answer}
 use Rattle.rules.specs.Answers.{number}
-use Rattle.rules.specs.Ranking.{Ranking}
+use Rattle.rules.specs.Ranking.{Ranking, jobRank}
 use Rattle.rules.specs.Tasks.{isWaiting, isExecuting, waitOf, taskAt, stateAt, waiting, executing, setsAt, setsOf, inState}
 use Rattle.rules.specs.Room.{ran}
 use Rattle.rules.specs.Events.{oneMore, raisedState, raisedTask, refused}
-use Rattle.rules.specs.History.{Call, heard, tasksOf, names, accepted, admits, isCommit, isRelease, Stage, absent, plain, waits as waitsStage, executes, stage, inWait, transaction, began, lasted, deferred, during, passes, passed, lastArrival, ranBy, reruns, retried}
+use Rattle.rules.specs.History.{Call, heard, tasksOf, names, accepted, admits, isCommit, isRelease, Stage, absent, plain, waits as waitsStage, executes, stage, inWait, transaction, began, lasted, deferred, during, passes, passed, lastArrival, ranked, ranBy, reruns, retried}
 use Rattle.rules.specs.History.{released as releasedIn}
 use Rattle.rules.specs.Demand3.{SameSets, stageOf, Told}
 use Rattle.rules.proofs.Laws.Rows.{Agree, clash-agree}
@@ -73,7 +74,7 @@ plus-none k false = add-zero k
 
 module _ (rank : Ranking) (start s : Session) (e : Event) (k : ℕ) (no : k ≢ 0) (calls : List Call) (i : ℕ) (p : Follows rank start s calls i) where
   pub refused-follows : Follows rank start s (heard e (refused s k) ∷ calls) i
-  unfolding stage transaction releasedIn began lasted passed retried during passes reruns lastArrival names tasksOf
+  unfolding stage transaction releasedIn began lasted passed retried during passes reruns lastArrival ranked names tasksOf
   refused-follows = record {
     told = record {
       stands = rw (ne-eqb k 0 no) (p .told .stands);
@@ -83,6 +84,7 @@ module _ (rank : Ranking) (start s : Session) (e : Event) (k : ℕ) (no : k ≢ 
       releases = rw (ne-eqb k 0 no) (p .told .releases ∙ sym (add-zero (releasedIn i calls)));
       terms = p .told .terms;
       arrival = rw (ne-eqb k 0 no) (p .told .arrival);
+      rank = rw (ne-eqb k 0 no) (p .told .rank);
     };
     clashes = λ w q. rw (ne-eqb k 0 no) (p .clashes w q ∙ sym (plus-none (passed i calls) (inWait i calls)));
     retries = λ w q. rw (ne-eqb k 0 no) (p .retries w q ∙ sym (plus-none (retried rank start i calls) (inWait i calls)));
@@ -107,6 +109,7 @@ record Seen (rank : Ranking) (start s : Session) (calls : List Call) (i : ℕ) (
   releases : t .releases ≡ releasedIn i calls
   terms : t .terms ≡ taskAt start i .terms
   arrival : t .arrival ≡ lastArrival start i calls
+  job : t .rank ≡ ranked start i calls
 
 follows : (rank : Ranking) (start s : Session) (calls : List Call) (i : ℕ) (t : Task) → taskAt s i ≡ t → Seen rank start s calls i t
     → Follows rank start s calls i
@@ -119,6 +122,7 @@ follows rank start s calls i t e p = record {
     releases = ap (λ (u : Task). u .releases) e ∙ p .releases;
     terms = ap (λ (u : Task). u .terms) e ∙ p .terms;
     arrival = ap (λ (u : Task). u .arrival) e ∙ p .arrival;
+    rank = ap (λ (u : Task). u .rank) e ∙ p .job;
   };
   clashes = λ w q. p .wait w (here ∙ q) .clashes;
   retries = λ w q. p .wait w (here ∙ q) .retries;
@@ -142,7 +146,7 @@ module _ (rank : Ranking) (start : Session) (e : Event) (a : Answer) (s s′ : S
   sets-stay y = subst (λ (x : Sets). SameSets x y) (sym (kept-sets s s′ (settled .kept) i))
 
   pub settled-follows : Follows rank start s′ (c ∷ calls) i
-  unfolding stage transaction releasedIn began lasted passed retried during passes reruns lastArrival names
+  unfolding stage transaction releasedIn began lasted passed retried during passes reruns lastArrival ranked names
   settled-follows = go (settled .each i)
     where
       go : Each s s′ (admits c i) i → Follows rank start s′ (c ∷ calls) i
@@ -160,6 +164,7 @@ module _ (rank : Ranking) (start : Session) (e : Event) (a : Answer) (s s′ : S
             releases = p .told .releases;
             terms = p .told .terms;
             arrival = p .told .arrival;
+            job = p .told .rank;
           })
       go (inr q) =
           follows rank start s′ (c ∷ calls) i (inState (taskAt s i) Executing) (q .1)
@@ -170,6 +175,7 @@ module _ (rank : Ranking) (start : Session) (e : Event) (a : Answer) (s s′ : S
             releases = p .told .releases;
             terms = p .told .terms;
             arrival = p .told .arrival;
+            job = p .told .rank;
           })
 
 -- ---- what the event does itself
@@ -235,6 +241,7 @@ busy-stage (Waiting w) = refl
 busy-stage Executing = refl
 
 module _ (rank : Ranking) (start s : Session) (e : Event) (said : Said) (s′ : Session) (moved : Moved rank s e said s′) (calls : List Call)
+    (mode-same : s .mode ≡ start .mode)
     (every : (j : ℕ) → j < s .n → Follows rank start s calls j) (told-ran : (j : ℕ) → j < s .n → ranBy rank start j calls ≡ ran rank s j)
     (fits : (j : ℕ) → j < s .n → waitOf (stateAt s j) .clashes < 4294967295) where
   abbrev i : ℕ
@@ -250,7 +257,7 @@ module _ (rank : Ranking) (start s : Session) (e : Event) (said : Said) (s′ : 
   commits-executing : isCommit (e .kind) ≡ true → executing s i ≡ true
   commits-executing q = go (moved .own)
     where
-      go : {said : Said} {u : Task} → Own (taskAt s i) e said u → executing s i ≡ true
+      go : {said : Said} {u : Task} → Own (s .mode) (taskAt s i) e said u → executing s i ≡ true
       go (arrives kind was late) = absurd (false≢true (ap isCommit (sym kind) ∙ q))
       go (runs kind was) = absurd (false≢true (ap isCommit (sym kind) ∙ q))
       go (waits kind was b k h) = absurd (false≢true (ap isCommit (sym kind) ∙ q))
@@ -289,7 +296,7 @@ module _ (rank : Ranking) (start s : Session) (e : Event) (said : Said) (s′ : 
     counted f p q = ap₂ (λ (k : ℕ) (b : Bool). k + one b) p (sym q) ∙ sym (during-goes f c₀ calls j (rw (ok, not-by) refl))
 
     other-follows : Follows rank start s′ (c₀ ∷ calls) j
-    unfolding stage transaction releasedIn began lasted passed retried lastArrival
+    unfolding stage transaction releasedIn began lasted passed retried lastArrival ranked
     other-follows =
         let before = every j l in
         let t = taskAt s j in
@@ -313,10 +320,11 @@ module _ (rank : Ranking) (start s : Session) (e : Event) (said : Said) (s′ : 
           releases = rw (ok, not-by) (rest-stays (λ (u : Task). u .releases) t (raisedTask hadRun t) raised refl ∙ before .told .releases ∙ sym (add-zero (releasedIn j calls)));
           terms = rest-stays (λ (u : Task). u .terms) t (raisedTask hadRun t) raised refl ∙ before .told .terms;
           arrival = rw (ok, not-by) (rest-stays (λ (u : Task). u .arrival) t (raisedTask hadRun t) raised refl ∙ before .told .arrival);
+          job = rw (ok, not-by) (rest-stays (λ (u : Task). u .rank) t (raisedTask hadRun t) raised refl ∙ before .told .rank);
         })
 
   own-follows : Follows rank start s′ (c₀ ∷ calls) i
-  unfolding stage transaction releasedIn began lasted passed retried during passes reruns lastArrival
+  unfolding stage transaction releasedIn began lasted passed retried during passes reruns lastArrival ranked
   own-follows = follows rank start s′ (c₀ ∷ calls) i (taskAt s′ i) refl (go said (taskAt s′ i) (moved .own))
     where
       mine : eqb i i ≡ true
@@ -328,7 +336,7 @@ module _ (rank : Ranking) (start s : Session) (e : Event) (said : Said) (s′ : 
       new-sets : isRelease (e .kind) ≡ true → SameSets (setsAt s′ i) (setsOf (e .reads) (e .writes))
       new-sets r g l = (moved .own-sets r .reads g l, moved .own-sets r .writes g l)
 
-      go : (said : Said) (u : Task) → Own (taskAt s i) e said u → Seen rank start s′ (unsettled e said ∷ calls) i u
+      go : (said : Said) (u : Task) → Own (s .mode) (taskAt s i) e said u → Seen rank start s′ (unsettled e said ∷ calls) i u
       go said u (arrives kind was late) = record {
         stands = rw (mine, kind);
         sets = λ b. absurd (false≢true b);
@@ -336,6 +344,7 @@ module _ (rank : Ranking) (start s : Session) (e : Event) (said : Said) (s′ : 
         releases = rw (mine, kind);
         terms = before .told .terms;
         arrival = rw (mine, kind);
+        job = rw (mine, kind) (ap₂ (λ (mode : ℕ) (t : Terms). jobRank mode t (e .tick)) mode-same (before .told .terms));
       }
       go said u (runs kind was) = record {
         stands = rw (mine, kind);
@@ -344,6 +353,7 @@ module _ (rank : Ranking) (start s : Session) (e : Event) (said : Said) (s′ : 
         releases = rw (mine, kind) (ap (λ (k : ℕ). k + 1) (before .told .releases));
         terms = before .told .terms;
         arrival = rw (mine, kind) (before .told .arrival);
+        job = rw (mine, kind) (before .told .rank);
       }
       go said u (waits kind was b k h) = record {
         stands = rw (mine, kind);
@@ -357,6 +367,7 @@ module _ (rank : Ranking) (start s : Session) (e : Event) (said : Said) (s′ : 
         releases = rw (mine, kind) (ap (λ (k : ℕ). k + 1) (before .told .releases));
         terms = before .told .terms;
         arrival = rw (mine, kind) (before .told .arrival);
+        job = rw (mine, kind) (before .told .rank);
       }
       go said u (commits kind was) = record {
         stands = rw (mine, kind);
@@ -365,6 +376,7 @@ module _ (rank : Ranking) (start s : Session) (e : Event) (said : Said) (s′ : 
         releases = rw (mine, kind) (before .told .releases ∙ sym (add-zero (releasedIn i calls)));
         terms = before .told .terms;
         arrival = rw (mine, kind) (before .told .arrival);
+        job = rw (mine, kind) (before .told .rank);
       }
       go said u (finishes kind was) = record {
         stands = rw (mine, kind);
@@ -373,6 +385,7 @@ module _ (rank : Ranking) (start s : Session) (e : Event) (said : Said) (s′ : 
         releases = rw (mine, kind);
         terms = before .told .terms;
         arrival = rw (mine, kind) (before .told .arrival);
+        job = rw (mine, kind);
       }
 
   pub moved-follows : (j : ℕ) → j < s .n → Follows rank start s′ (c₀ ∷ calls) j

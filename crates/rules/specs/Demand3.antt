@@ -4,9 +4,9 @@
 -- refused ones included. History has what they say of the calls; the proofs are in proofs/Demand3.antt.
 use Prim.Native.Nat.{ℕ, _+_, _≤_, _<_}
 use mathlib.Core.Path.{_≡_}
-use mathlib.Core.Logic.{_⊎_, _≢_}
+use mathlib.Core.Logic.{_⊎_, _≢_, _↔_}
 use mathlib.Core.List.{List, [], _∷_}
-use mathlib.Core.Bool.{Bool, true, false, _||_}
+use mathlib.Core.Bool.{Bool, true, false, not, _||_}
 use lib.ListN.{getD}
 use Rattle.objects.specs.Below.{count}
 use Rattle.objects.specs.Objects.{Sets, Clash}
@@ -14,19 +14,20 @@ use Rattle.rules.specs.declared.Setup.{Setup}
 use Rattle.rules.specs.declared.Wait.{Wait}
 use Rattle.rules.specs.declared.State.{State}
 use Rattle.rules.specs.declared.State.the-variants.{Absent, Plain, Waiting, Executing}
+use Rattle.rules.specs.declared.Arrival.the-variants.{At}
 use Rattle.rules.specs.declared.Session.{Session}
 use Rattle.rules.specs.declared.Event.{Event}
 use Rattle.rules.specs.declared.Answer.{Answer}
-use Rattle.rules.specs.Ranking.{Ranking, Strict, Stays}
+use Rattle.rules.specs.Ranking.{Ranking, HigherPriority, EarlierDeadline, byRank, Strict, Stays}
 use Rattle.rules.specs.Tasks.{isAbsent, waitOf, taskAt, stateAt, waiting, executing, setsAt}
 use Rattle.rules.specs.Setup.{setupNumber, fresh}
-use Rattle.rules.specs.Room.{room}
+use Rattle.rules.specs.Room.{rankAt, room}
 use Rattle.rules.specs.Contest.{Blocked}
 use Rattle.rules.specs.Scan.{noAdmission}
 use Rattle.rules.specs.Events.{step}
 use Rattle.rules.specs.Sum.{summed}
 use Rattle.rules.specs.Reachable.{Sound}
-use Rattle.rules.specs.History.{Call, heard, commits, Stage, absent, plain, waits, executes, stage, transaction, released, began, lasted, admittedAt, waitLength, passed, lastArrival, retried}
+use Rattle.rules.specs.History.{Call, heard, commits, Stage, absent, plain, waits, executes, stage, transaction, released, began, lasted, admittedAt, waitLength, passed, lastArrival, ranked, retried}
 
 -- ---- a run
 
@@ -149,7 +150,7 @@ stageOf Plain = plain
 stageOf (Waiting w) = waits
 stageOf Executing = executes
 
--- task i's state; its sets; its wait's beginning, and that it has come to the last accepted tick; its releases; its terms, and its last arrival
+-- task i's state; its sets; its wait's beginning, and that it has come to the last accepted tick; its releases; its terms, its last arrival, and its rank
 pub record Told (start s : Session) (calls : List Call) (i : ℕ) : Type 0 where
   pub stands : stage i calls ≡ stageOf (stateAt s i)
   pub sets : (waiting s i || executing s i) ≡ true → SameSets (setsAt s i) (transaction i calls)
@@ -158,6 +159,7 @@ pub record Told (start s : Session) (calls : List Call) (i : ℕ) : Type 0 where
   pub releases : taskAt s i .releases ≡ released i calls
   pub terms : taskAt s i .terms ≡ taskAt start i .terms
   pub arrival : taskAt s i .arrival ≡ lastArrival start i calls
+  pub rank : taskAt s i .rank ≡ ranked start i calls
 
 abbrev pub AsTold : Type 0
 AsTold = InEveryRun (λ rank start s calls. (i : ℕ) → i < s .n → Told start s calls i)
@@ -166,3 +168,30 @@ AsTold = InEveryRun (λ rank start s calls. (i : ℕ) → i < s .n → Told star
 -- admitted it, whatever came after; both are 0 where it never waited. Of one that waits, `Told` has it.
 abbrev pub WaitsEnd : Type 0
 WaitsEnd = InEveryRun (λ rank start s calls. (i : ℕ) → i < s .n → waiting s i ≡ false → lasted i calls ≡ admittedAt i calls)
+
+-- ---- g. 'The rank becomes part of a present job's record', and it stays: a task that is present before and after a call has the rank and the last arrival that it had, which
+-- are those of its arrival
+
+abbrev pub presentAt : Session → ℕ → Bool
+presentAt s i = not (isAbsent (stateAt s i))
+
+abbrev pub JobStays : Session → Session → Type 0
+JobStays s s′ =
+    (i : ℕ) → i < s .n → presentAt s i ≡ true → presentAt s′ i ≡ true
+    → (taskAt s′ i .rank ≡ taskAt s i .rank) × (taskAt s′ i .arrival ≡ taskAt s i .arrival)
+
+abbrev pub RankStays : Type 0
+RankStays = InEveryRun (λ rank start s calls. (e : Event) → JobStays s (step rank s e .session))
+
+-- Of two present jobs, with the ticks of their last arrivals, one ranks above the other where the mode's own wording says so.
+abbrev pub RanksAsSaid : Session → Type 0
+RanksAsSaid s =
+    (i j a b : ℕ) → i < s .n → j < s .n → presentAt s i ≡ true → presentAt s j ≡ true → taskAt s i .arrival ≡ At a → taskAt s j .arrival ≡ At b
+    → taskAt s i .terms .priority ≤ 65535 → taskAt s j .terms .priority ≤ 65535
+    → let t = taskAt s i .terms in
+    let u = taskAt s j .terms in
+    (s .mode ≡ 0 → HigherPriority t i u j ↔ (rankAt byRank s i < rankAt byRank s j))
+    × (s .mode ≡ 1 → EarlierDeadline t a i u b j ↔ (rankAt byRank s i < rankAt byRank s j))
+
+abbrev pub RankedAsSaid : Type 0
+RankedAsSaid = InEveryRun (λ rank start s calls. RanksAsSaid s)

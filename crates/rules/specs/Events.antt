@@ -16,7 +16,7 @@ use Rattle.rules.specs.declared.Event.{Event}
 use Rattle.rules.specs.declared.Said.{Said}
 use Rattle.rules.specs.declared.Said.the-variants.{Ok, Run, Wait, No}
 use Rattle.rules.specs.declared.Answer.{Answer}
-use Rattle.rules.specs.Ranking.{Ranking}
+use Rattle.rules.specs.Ranking.{Ranking, jobRank}
 use Rattle.rules.specs.Tasks.{isAbsent, isPlain, isExecuting, taskAt, stateAt, waiting, setsAt, setsOf, known, inState, withTasks, withTask, withSets, stamped}
 use Rattle.rules.specs.Room.{room, ran}
 use Rattle.rules.specs.Contest.{blocked, lowestContested, contestedCount, highestClashing}
@@ -70,20 +70,20 @@ still said s = record { said = said; admitted = none; session = s }
 abbrev pub scanning : Ranking → Said → Session → Answer
 scanning rank said s = record { said = said; admitted = scan rank s .admitted; session = scan rank s .session }
 
--- 'arrive: absent becomes plain, releases 0, last arrival set.'
-abbrev pub arrived : Task → ℕ → Task
-arrived t tick = record { terms = t .terms; state = Plain; arrival = At tick; releases = 0 }
+-- 'arrive: absent becomes plain, releases 0, last arrival set.' Request 5: 'The rank becomes part of a present job's record.' It is set here.
+abbrev pub arrived : ℕ → Task → ℕ → Task
+arrived mode t tick = record { terms = t .terms; state = Plain; arrival = At tick; releases = 0; rank = jobRank mode (t .terms) tick }
 
 unfoldable pub arrive : Session → ℕ → ℕ → Answer
-unfolding arriveNumber
+unfolding arriveNumber jobRank
 arrive s tick i =
     cond (eqb (arriveNumber s tick i) 0)
-    (still Ok (withTask (stamped s tick) i (arrived (taskAt s i) tick)))
+    (still Ok (withTask (stamped s tick) i (arrived (s .mode) (taskAt s i) tick)))
     (refused s (arriveNumber s tick i))
 
 -- one more release, and the state that it leads to
 abbrev pub released : Task → State → Task
-released t state = record { terms = t .terms; state = state; arrival = t .arrival; releases = t .releases + 1 }
+released t state = record { terms = t .terms; state = state; arrival = t .arrival; releases = t .releases + 1; rank = t .rank }
 
 abbrev pub releasedInto : Session → ℕ → ℕ → List ℕ → List ℕ → State → Session
 releasedInto s tick i reads writes state =
@@ -156,9 +156,9 @@ commit rank s tick i =
     let accepts = scanning rank Ok (committed rank s tick i) in
     cond (eqb (commitNumber s tick i) 0) accepts (refused s (commitNumber s tick i))
 
--- 'finish: a plain task on a processor becomes absent, and a scan follows.' Its releases are '0 while absent'.
+-- 'finish: a plain task on a processor becomes absent, and a scan follows.' Its releases are '0 while absent', and so is its rank, which is of no account then.
 abbrev pub finished : Task → Task
-finished t = record { terms = t .terms; state = Absent; arrival = t .arrival; releases = 0 }
+finished t = record { terms = t .terms; state = Absent; arrival = t .arrival; releases = 0; rank = 0 }
 
 unfoldable pub finish : Ranking → Session → ℕ → ℕ → Answer
 unfolding finishNumber scan

@@ -17,7 +17,7 @@ use Rattle.rules.specs.declared.Said.{Said}
 use Rattle.rules.specs.declared.Admission.{Admission}
 use Rattle.rules.specs.declared.Answer.{Answer}
 use Rattle.rules.specs.Answers.{isWait, number}
-use Rattle.rules.specs.Ranking.{Ranking}
+use Rattle.rules.specs.Ranking.{Ranking, jobRank}
 use Rattle.rules.specs.Tasks.{taskAt, setsOf}
 use Rattle.rules.specs.Lines.{admissions}
 
@@ -189,20 +189,29 @@ unfoldable pub passed : ℕ → List Call → ℕ
 unfolding during passes
 passed i calls = during (passes i) i calls
 
--- ---- at which of those it ran, in a run from this start, which has m, n, the terms and the arrivals before it
+-- ---- at which of those it ran, in a run from this start, which has m, n, the mode, the terms and the arrivals before it
 
 -- 'its last arrival, if any'
 unfoldable pub lastArrival : Session → ℕ → List Call → Arrival
 lastArrival start i [] = taskAt start i .arrival
 lastArrival start i (c ∷ before) = cond (arrives c i) (At (c .event .tick)) (lastArrival start i before)
 
--- its rank, which goes by its terms and its last arrival
+-- the rank of its present job, which its arrival gave it: none before it arrives, and none after it finishes
+unfoldable pub ranked : Session → ℕ → List Call → ℕ
+unfolding jobRank
+ranked start i [] = 0
+ranked start i (c ∷ before) =
+    cond (arrives c i) (jobRank (start .mode) (taskAt start i .terms) (c .event .tick)) (cond (finishes c i) 0 (ranked start i before))
+
+-- its rank in the ranking, which goes by its terms, its last arrival and the rank of its job
 abbrev pub rankBy : Ranking → Session → List Call → ℕ → ℕ
-rankBy rank start calls i = rank (record { terms = taskAt start i .terms; state = Plain; arrival = lastArrival start i calls; releases = 0 }) i
+rankBy rank start calls i =
+    let arrival = lastArrival start i calls in
+    rank (record { terms = taskAt start i .terms; state = Plain; arrival = arrival; releases = 0; rank = ranked start i calls }) i
 
 -- 'executing tasks plus all plain tasks plus waiting tasks ranked above this one are fewer than m', by the calls
 unfoldable pub ranBy : Ranking → Session → ℕ → List Call → Bool
-unfolding count stage lastArrival
+unfolding count stage lastArrival ranked
 ranBy rank start i calls =
     let executing = count (start .n) (λ j. isExecutes (stage j calls)) in
     let plain = count (start .n) (λ j. isPlains (stage j calls)) in

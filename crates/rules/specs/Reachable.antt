@@ -9,13 +9,14 @@ use Rattle.objects.specs.Below.{count, Lowest, SoMany}
 use Rattle.objects.specs.Objects.{Sets, clash}
 use Rattle.rules.specs.declared.Setup.{Setup}
 use Rattle.rules.specs.declared.Arrival.the-variants.{At}
+use Rattle.rules.specs.declared.Task.{Task}
 use Rattle.rules.specs.declared.Session.{Session}
 use Rattle.rules.specs.declared.Event.{Event}
 use Rattle.rules.specs.declared.Said.{Said}
 use Rattle.rules.specs.declared.Said.the-variants.{No}
 use Rattle.rules.specs.declared.Answer.{Answer}
 use Rattle.rules.specs.Answers.{isWait, number, object, contested, whom}
-use Rattle.rules.specs.Ranking.{Ranking, Strict, Stays}
+use Rattle.rules.specs.Ranking.{Ranking, Ranked, Strict, Stays}
 use Rattle.rules.specs.Tasks.{isAbsent, waitOf, taskAt, stateAt, waiting, executing, setsAt, setsOf, noTask}
 use Rattle.rules.specs.Setup.{setupNumber, fresh, start, termsNumber}
 use Rattle.rules.specs.Room.{room}
@@ -28,6 +29,10 @@ use Rattle.rules.specs.Sum.{summed}
 -- group g of task i's two sets is empty
 abbrev pub EmptyAt : Session → ℕ → ℕ → Type 0
 EmptyAt s i g = (getD (s .reads) (i * 4 + g) 0 ≡ 0) × (getD (s .writes) (i * 4 + g) 0 ≡ 0)
+
+-- a present job's record: it has arrived, and it has the rank that it got then
+abbrev pub Job : ℕ → Task → Type 0
+Job mode t = (a : ℕ) × (t .arrival ≡ At a) × Ranked mode t a
 
 pub record Sound (rank : Ranking) (s : Session) : Type 0 where
   -- the tables' sizes
@@ -50,9 +55,11 @@ pub record Sound (rank : Ranking) (s : Session) : Type 0 where
   pub clashes : (i : ℕ) → i < s .n → waitOf (stateAt s i) .clashes ≤ s .accepted
   pub arrivals : (i a : ℕ) → i < s .n → taskAt s i .arrival ≡ At a → a ≤ s .tick
   pub accepted : s .accepted ≤ 1000000
-  -- the normal form: a task that is neither waiting nor executing has empty groups; an absent task has no releases; a task past n is as in a fresh session
+  -- a present job has its rank
+  pub present : (i : ℕ) → i < s .n → isAbsent (stateAt s i) ≡ false → Job (s .mode) (taskAt s i)
+  -- the normal form: a task that is neither waiting nor executing has empty groups; an absent task has no releases and no rank; a task past n is as in a fresh session
   pub emptied : (i g : ℕ) → i < 64 → g < 4 → waiting s i ≡ false → executing s i ≡ false → EmptyAt s i g
-  pub gone : (i : ℕ) → i < s .n → isAbsent (stateAt s i) ≡ true → taskAt s i .releases ≡ 0
+  pub gone : (i : ℕ) → i < s .n → isAbsent (stateAt s i) ≡ true → (taskAt s i .releases ≡ 0) × (taskAt s i .rank ≡ 0)
   pub past : (i : ℕ) → s .n ≤ i → i < 64 → taskAt s i ≡ noTask
 
 -- ---- the statements

@@ -14,6 +14,7 @@ use Rattle.rules.specs.declared.Started.{Started}
 use Rattle.rules.specs.declared.Said.the-variants.{Ok, No}
 use Rattle.rules.specs.declared.State.the-variants.{Absent}
 use Rattle.rules.specs.Answers.{number}
+use Rattle.rules.specs.Ranking.{knownMode}
 use Rattle.rules.specs.Tasks.{allowed, freshTask, noTerms, noTask, stateAt}
 
 abbrev pub termsAt : Setup → ℕ → Terms
@@ -28,10 +29,10 @@ unfoldable pub firstNumber : Setup → ℕ → ℕ
 firstNumber u zero = 0
 firstNumber u (suc k) = cond (eqb (firstNumber u k) 0) (termsNumber (termsAt u k)) (firstNumber u k)
 
--- 'setup tries 10, 11, then 12 and 13 for each task'
+-- 'setup tries 10, 11, then 12 and 13 for each task'; request 5: '14, unknown mode, tried after 11'
 unfoldable pub setupNumber : Setup → ℕ
 unfolding firstNumber
-setupNumber u = cond (allowed 16 (u .m)) (cond (allowed 64 (u .n)) (firstNumber u (u .n)) 11) 10
+setupNumber u = cond (allowed 16 (u .m)) (cond (allowed 64 (u .n)) (cond (knownMode (u .mode)) (firstNumber u (u .n)) 14) 11) 10
 
 -- every task below k fresh at its terms, and the rest as tasks that no setup names
 unfoldable pub freshTasks : Setup → ℕ → List Task
@@ -39,10 +40,11 @@ freshTasks u zero = replicate 64 noTask
 freshTasks u (suc k) = set (freshTasks u k) k (freshTask (termsAt u k))
 
 -- a session in which nothing has happened
-abbrev pub quiet : ℕ → ℕ → List Task → Session
-quiet m n tasks = record {
+abbrev pub quiet : ℕ → ℕ → ℕ → List Task → Session
+quiet m n mode tasks = record {
   m = m;
   n = n;
+  mode = mode;
   tick = 0;
   accepted = 0;
   tasks = tasks;
@@ -53,11 +55,11 @@ quiet m n tasks = record {
 -- 'A fresh session has every task absent with no arrival, last tick 0 and nothing accepted.'
 unfoldable pub fresh : Setup → Session
 unfolding freshTasks
-fresh u = quiet (u .m) (u .n) (freshTasks u (u .n))
+fresh u = quiet (u .m) (u .n) (u .mode) (freshTasks u (u .n))
 
 -- 'A refused setup makes no session; what comes back in its place has m and n 0 and every task absent'
 unfoldable pub noSession : Session
-noSession = quiet 0 0 (replicate 64 noTask)
+noSession = quiet 0 0 0 (replicate 64 noTask)
 
 unfoldable pub start : Setup → Started
 unfolding setupNumber fresh noSession
@@ -78,13 +80,14 @@ NoSessionPlain = NoSession noSession
 abbrev pub RefusedStart : Type 0
 RefusedStart = (u : Setup) → 1 ≤ number (start u .said) → NoSession (start u .session)
 
--- 'Two setups are equal if m, n and the numbers of the tasks below n are.'
+-- 'Two setups are equal if m, n and the numbers of the tasks below n are.' Request 5: 'Setups are equal only with equal modes.'
 abbrev pub sameTerms : Terms → Terms → Bool
 sameTerms t t′ = eqb (t .priority) (t′ .priority) && eqb (t .period) (t′ .period) && eqb (t .transactions) (t′ .transactions)
 
 unfoldable pub sameSetup : Setup → Setup → Bool
 unfolding all
-sameSetup u u′ = eqb (u .m) (u′ .m) && eqb (u .n) (u′ .n) && all (u .n) (λ i. sameTerms (termsAt u i) (termsAt u′ i))
+sameSetup u u′ =
+    eqb (u .m) (u′ .m) && eqb (u .n) (u′ .n) && eqb (u .mode) (u′ .mode) && all (u .n) (λ i. sameTerms (termsAt u i) (termsAt u′ i))
 
 -- equal setups start the same session
 abbrev pub SameStart : Type 0

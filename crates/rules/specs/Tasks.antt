@@ -52,7 +52,7 @@ waitOf Executing = noWait
 
 -- 'A fresh session has every task absent with no arrival': a task at these terms.
 abbrev pub freshTask : Terms → Task
-freshTask terms = record { terms = terms; state = Absent; arrival = Never; releases = 0 }
+freshTask terms = record { terms = terms; state = Absent; arrival = Never; releases = 0; rank = 0 }
 
 -- the terms of a task that a setup does not name
 abbrev pub noTerms : Terms
@@ -97,13 +97,14 @@ known s i = allowed 16 (s .m) && allowed 64 (s .n) && ltb i (s .n)
 
 -- the task in another state
 abbrev pub inState : Task → State → Task
-inState t state = record { terms = t .terms; state = state; arrival = t .arrival; releases = t .releases }
+inState t state = record { terms = t .terms; state = state; arrival = t .arrival; releases = t .releases; rank = t .rank }
 
 -- the session with other tasks
 abbrev pub withTasks : Session → List Task → Session
 withTasks s tasks = record {
   m = s .m;
   n = s .n;
+  mode = s .mode;
   tick = s .tick;
   accepted = s .accepted;
   tasks = tasks;
@@ -128,6 +129,7 @@ abbrev pub withSets : Session → ℕ → List ℕ → List ℕ → Session
 withSets s i reads writes = record {
   m = s .m;
   n = s .n;
+  mode = s .mode;
   tick = s .tick;
   accepted = s .accepted;
   tasks = s .tasks;
@@ -140,6 +142,7 @@ abbrev pub stamped : Session → ℕ → Session
 stamped s tick = record {
   m = s .m;
   n = s .n;
+  mode = s .mode;
   tick = tick;
   accepted = s .accepted + 1;
   tasks = s .tasks;

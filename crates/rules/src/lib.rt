@@ -7,10 +7,11 @@ pub struct Terms {
     pub transactions: u8,
 }
 
-// A setup: m processors, n tasks, and the terms of each task below n. What stands past n means nothing.
+// A setup: m processors, n tasks, the mode, and the terms of each task below n. Mode 0 ranks by fixed priority, mode 1 by deadline. What stands past n means nothing.
 pub struct Setup {
     pub m: u8,
     pub n: u8,
+    pub mode: u8,
     pub terms: [Terms; 64],
 }
 
@@ -35,18 +36,20 @@ pub enum Arrival {
     At(u32),
 }
 
-// A task: its terms, its state, its last arrival, and the releases accepted in its present job.
+// A task: its terms, its state, its last arrival, the releases accepted in its present job, and what that job ranks by, smaller is higher. Both are 0 while it is absent.
 pub struct Task {
     pub terms: Terms,
     pub state: State,
     pub arrival: Arrival,
     pub releases: u8,
+    pub rank: u64,
 }
 
 // A session. Group g of task i's read set is reads[i * 4 + g], and so for its write set.
 pub struct Session {
     pub m: u8,
     pub n: u8,
+    pub mode: u8,
     pub tick: u32,
     pub accepted: u32,
     pub tasks: [Task; 64],

@@ -51,6 +51,10 @@ pub alike-releases : (t u : Task) → Alike t u → u .releases ≡ t .releases
 alike-releases t u (inl e) = ap (λ (x : Task). x .releases) e
 alike-releases t u (inr r) = ap (λ (x : Task). x .releases) (r .raises)
 
+pub alike-rank : (t u : Task) → Alike t u → u .rank ≡ t .rank
+alike-rank t u (inl e) = ap (λ (x : Task). x .rank) e
+alike-rank t u (inr r) = ap (λ (x : Task). x .rank) (r .raises)
+
 -- of a state, what does not go by the wait: which of the four it is
 pub alike-state : (f : State → Bool) → ((w v : Wait) → f (Waiting w) ≡ f (Waiting v)) → (t u : Task) → Alike t u → f (u .state) ≡ f (t .state)
 alike-state f h t u (inl e) = ap (λ (x : Task). f (x .state)) e

@@ -16,8 +16,9 @@ use Rattle.rules.specs.Ranking.{Ranking, Strict, Stays}
 use Rattle.rules.specs.Tasks.{isAbsent, isWaiting, isExecuting, waitOf, taskAt, stateAt, waiting, executing, inState, noTask}
 use Rattle.rules.specs.Setup.{termsNumber}
 use Rattle.rules.specs.Scan.{scan}
-use Rattle.rules.specs.Reachable.{EmptyAt, Sound}
+use Rattle.rules.specs.Reachable.{EmptyAt, Job, Sound}
 use Rattle.rules.proofs.Laws.Kept.{Kept, Apart, Held}
+use Rattle.rules.proofs.Laws.Tasks.{waiting-not-absent}
 use Rattle.rules.proofs.Laws.Keeping.{EachKept}
 use Rattle.rules.proofs.Laws.Scan.{scan-kept, scan-apart, scan-fits, scan-held}
 
@@ -36,8 +37,9 @@ pub record Almost (s : Session) : Type 0 where
   pub clashes : (i : ℕ) → i < s .n → waitOf (stateAt s i) .clashes ≤ s .accepted
   pub arrivals : (i a : ℕ) → i < s .n → taskAt s i .arrival ≡ At a → a ≤ s .tick
   pub accepted : s .accepted ≤ 1000000
+  pub present : (i : ℕ) → i < s .n → isAbsent (stateAt s i) ≡ false → Job (s .mode) (taskAt s i)
   pub emptied : (i g : ℕ) → i < 64 → g < 4 → waiting s i ≡ false → executing s i ≡ false → EmptyAt s i g
-  pub gone : (i : ℕ) → i < s .n → isAbsent (stateAt s i) ≡ true → taskAt s i .releases ≡ 0
+  pub gone : (i : ℕ) → i < s .n → isAbsent (stateAt s i) ≡ true → (taskAt s i .releases ≡ 0) × (taskAt s i .rank ≡ 0)
   pub past : (i : ℕ) → s .n ≤ i → i < 64 → taskAt s i ≡ noTask
 
 pub almost-sound : (rank : Ranking) (s : Session) → Almost s → Held rank s → Sound rank s
@@ -57,6 +59,7 @@ almost-sound rank s a held = record {
   clashes = a .clashes;
   arrivals = a .arrivals;
   accepted = a .accepted;
+  present = a .present;
   emptied = a .emptied;
   gone = a .gone;
   past = a .past;
@@ -96,6 +99,9 @@ module _ (s s′ : Session) (kept : Kept s s′) where
         le-trans (each-kept (λ (t : Task). t .arrival ≡ At x → x ≤ s .tick) i (a .arrivals i x (below-kept i l)) (λ b w. a .arrivals i x b) e)
         (le-of-eq (sym (kept .tick)));
     accepted = le-trans (le-of-eq (kept .accepted)) (a .accepted);
+    present = λ i l.
+        rw (kept .mode)
+        (each-kept (λ (t : Task). isAbsent (t .state) ≡ false → Job (s .mode) t) i (a .present i (below-kept i l)) (λ b w e. a .present i b (waiting-not-absent (stateAt s i) w)));
     emptied = λ i g li lg w x.
         let p =
         each-kept (λ (t : Task). isWaiting (t .state) ≡ false → isExecuting (t .state) ≡ false → EmptyAt s i g) i (a .emptied i g li lg)
@@ -103,7 +109,7 @@ module _ (s s′ : Session) (kept : Kept s s′) where
         in
         (ap (λ (r : List ℕ). getD r (i * 4 + g) 0) (kept .reads) ∙ p .0, ap (λ (r : List ℕ). getD r (i * 4 + g) 0) (kept .writes) ∙ p .1);
     gone = λ i l.
-        each-kept (λ (t : Task). isAbsent (t .state) ≡ true → t .releases ≡ 0) i (a .gone i (below-kept i l)) (λ b w e. absurd (false≢true e));
+        each-kept (λ (t : Task). isAbsent (t .state) ≡ true → (t .releases ≡ 0) × (t .rank ≡ 0)) i (a .gone i (below-kept i l)) (λ b w e. absurd (false≢true e));
     past = λ i h l.
         each-kept (λ (t : Task). t ≡ noTask) i (a .past i (le-trans (le-of-eq (sym (kept .n))) h) l)
         (λ b w. absurd (not-suc-le-self i (lt-of-lt-of-le b (le-trans (le-of-eq (sym (kept .n))) h))));

@@ -27,11 +27,11 @@ use Rattle.rules.specs.Setup.{termsNumber}
 use Rattle.rules.specs.Room.{rankAt, plainAbove, room}
 use Rattle.rules.specs.Contest.{blocked}
 use Rattle.rules.specs.Scan.{scan}
-use Rattle.rules.specs.Reachable.{EmptyAt, Sound}
+use Rattle.rules.specs.Reachable.{EmptyAt, Job, Sound}
 use Rattle.rules.proofs.Laws.Kept.{Apart, Held}
 use Rattle.rules.proofs.Laws.Rows.{Agree, groups-length, groups-other, clash-agree}
 use Rattle.rules.proofs.Laws.Numbers.{Timely}
-use Rattle.rules.proofs.Laws.Alike.{at-or-other, Alike, alike-terms, alike-arrival, alike-releases, alike-state, alike-clashes, alike-same}
+use Rattle.rules.proofs.Laws.Alike.{at-or-other, Alike, alike-terms, alike-arrival, alike-releases, alike-rank, alike-state, alike-clashes, alike-same}
 use Rattle.rules.proofs.Laws.Almost.{Almost, almost-sound, scanning-sound}
 
 -- ---- the change
@@ -41,6 +41,7 @@ abbrev pub after : Session → ℕ → ℕ → Task → List Task → List ℕ �
 after s at i t table reads writes = record {
   m = s .m;
   n = s .n;
+  mode = s .mode;
   tick = at;
   accepted = s .accepted + 1;
   tasks = set table i t;
@@ -65,8 +66,9 @@ pub record Fine (s : Session) (i : ℕ) (t : Task) (s′ : Session) : Type 0 whe
   pub releases : t .releases ≤ t .terms .transactions
   pub clashes : waitOf (t .state) .clashes ≤ s .accepted + 1
   pub arrivals : (a : ℕ) → t .arrival ≡ At a → a ≤ s′ .tick
+  pub present : isAbsent (t .state) ≡ false → Job (s .mode) t
   pub emptied : (g : ℕ) → g < 4 → isWaiting (t .state) ≡ false → isExecuting (t .state) ≡ false → EmptyAt s′ i g
-  pub gone : isAbsent (t .state) ≡ true → t .releases ≡ 0
+  pub gone : isAbsent (t .state) ≡ true → (t .releases ≡ 0) × (t .rank ≡ 0)
   pub fits : isExecuting (t .state) ≡ true → count (s .n) (executing s) < s .m
   pub apart : isExecuting (t .state) ≡ true → (j : ℕ) → j < s .n → j ≢ i → executing s j ≡ true → clash (setsAt s′ i) (setsAt s′ j) ≡ false
 
@@ -172,6 +174,14 @@ module _ {rank : Ranking} {s : Session} (sound : Sound rank s) {at i rest : ℕ}
           everywhere (λ (j : ℕ) (x : Task). j < s .n → x .arrival ≡ At a → a ≤ at) (λ l. fine .arrivals a)
           (λ j d l e. le-trans (sound .arrivals j a l (sym (alike-arrival (taskAt s j) (taskAt s′ j) (other j d)) ∙ e)) (timely .tick)) j;
       accepted = timely .accepted;
+      present =
+          everywhere (λ (j : ℕ) (x : Task). j < s .n → isAbsent (x .state) ≡ false → Job (s .mode) x) (λ l. fine .present)
+          (λ j d l e.
+          let p = sound .present j l (sym (other-state isAbsent (λ w v. refl) j d) ∙ e) in (
+            p .0,
+            alike-arrival (taskAt s j) (taskAt s′ j) (other j d) ∙ p .1,
+            rw (alike-rank (taskAt s j) (taskAt s′ j) (other j d), alike-terms (taskAt s j) (taskAt s′ j) (other j d)) (p .2),
+          ));
       emptied = λ j g.
           everywhere (λ (j : ℕ) (x : Task). j < 64 → g < 4 → isWaiting (x .state) ≡ false → isExecuting (x .state) ≡ false → EmptyAt s′ j g)
           (λ l lg. fine .emptied g lg)
@@ -179,9 +189,10 @@ module _ {rank : Ranking} {s : Session} (sound : Sound rank s) {at i rest : ℕ}
           let p = sound .emptied j g l lg (sym (other-waiting j d) ∙ w) (sym (other-executing j d) ∙ x) in
           (rows .others j d .reads g lg ∙ p .0, rows .others j d .writes g lg ∙ p .1)) j;
       gone =
-          everywhere (λ (j : ℕ) (x : Task). j < s .n → isAbsent (x .state) ≡ true → x .releases ≡ 0) (λ l. fine .gone)
+          everywhere (λ (j : ℕ) (x : Task). j < s .n → isAbsent (x .state) ≡ true → (x .releases ≡ 0) × (x .rank ≡ 0)) (λ l. fine .gone)
           (λ j d l e.
-          alike-releases (taskAt s j) (taskAt s′ j) (other j d) ∙ sound .gone j l (sym (other-state isAbsent (λ w v. refl) j d) ∙ e));
+          let p = sound .gone j l (sym (other-state isAbsent (λ w v. refl) j d) ∙ e) in
+          (alike-releases (taskAt s j) (taskAt s′ j) (other j d) ∙ p .0, alike-rank (taskAt s j) (taskAt s′ j) (other j d) ∙ p .1));
       past = λ j h l.
           let d : j ≢ i = ne-of-gt (lt-of-lt-of-le (timely .below) h) in
           alike-same (taskAt s j) (taskAt s′ j) (ap (λ (x : Task). isWaiting (x .state)) (sound .past j h l)) (other j d) ∙ sound .past j h l;
@@ -197,6 +208,7 @@ module _ {rank : Ranking} {s : Session} (sound : Sound rank s) {at i rest : ℕ}
     other-rank : (j : ℕ) → j ≢ i → rankAt rank s′ j ≡ rankAt rank s j
     other-rank j d =
         stays (taskAt s′ j) (taskAt s j) j (alike-terms (taskAt s j) (taskAt s′ j) (other j d)) (alike-arrival (taskAt s j) (taskAt s′ j) (other j d))
+        (alike-rank (taskAt s j) (taskAt s′ j) (other j d))
 
     other-above : (j k : ℕ) → j ≢ i → k ≢ i → plainAbove rank s′ j k ≡ plainAbove rank s j k
     other-above j k d e = rw (other-state isPlain (λ w v. refl) k e, other-rank k e, other-rank j d)

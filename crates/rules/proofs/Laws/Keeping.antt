@@ -61,6 +61,7 @@ pub kept-refl : (s : Session) → Kept s s
 kept-refl s = record {
   m = refl;
   n = refl;
+  mode = refl;
   tick = refl;
   accepted = refl;
   reads = refl;
@@ -73,6 +74,7 @@ pub kept-trans : (s s′ s″ : Session) → Kept s s′ → Kept s′ s″ → 
 kept-trans s s′ s″ p q = record {
   m = q .m ∙ p .m;
   n = q .n ∙ p .n;
+  mode = q .mode ∙ p .mode;
   tick = q .tick ∙ p .tick;
   accepted = q .accepted ∙ p .accepted;
   reads = q .reads ∙ p .reads;
@@ -101,6 +103,7 @@ module _ (s : Session) (i : ℕ) (below : i < s .n) (waits : waiting s i ≡ tru
   admitted-kept = record {
     m = refl;
     n = refl;
+    mode = refl;
     tick = refl;
     accepted = refl;
     reads = refl;

@@ -17,6 +17,7 @@ use Rattle.rules.specs.Scan.{scan}
 pub record Kept (s s′ : Session) : Type 0 where
   pub m : s′ .m ≡ s .m
   pub n : s′ .n ≡ s .n
+  pub mode : s′ .mode ≡ s .mode
   pub tick : s′ .tick ≡ s .tick
   pub accepted : s′ .accepted ≡ s .accepted
   pub reads : s′ .reads ≡ s .reads

@@ -30,10 +30,10 @@ by-number k s accepts P accept refuse = go (eqb k 0) refl
     go false e = refuse (eqb-false k 0 e)
 
 module _ (P : Answer → Type 0) (s : Session) (refuses : (k : ℕ) → k ≢ 0 → P (refused s k)) (tick i : ℕ) where
-  pub arrive-cases : (arriveNumber s tick i ≡ 0 → P (still Ok (withTask (stamped s tick) i (arrived (taskAt s i) tick)))) → P (arrive s tick i)
+  pub arrive-cases : (arriveNumber s tick i ≡ 0 → P (still Ok (withTask (stamped s tick) i (arrived (s .mode) (taskAt s i) tick)))) → P (arrive s tick i)
   unfolding arrive
   arrive-cases accepts =
-      by-number (arriveNumber s tick i) s (still Ok (withTask (stamped s tick) i (arrived (taskAt s i) tick))) P accepts
+      by-number (arriveNumber s tick i) s (still Ok (withTask (stamped s tick) i (arrived (s .mode) (taskAt s i) tick))) P accepts
       (refuses (arriveNumber s tick i))
 
   module _ (rank : Ranking) where

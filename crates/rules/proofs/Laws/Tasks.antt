@@ -10,9 +10,15 @@ use Rattle.rules.specs.declared.State.{State}
 use Rattle.rules.specs.declared.State.the-variants.{Absent, Plain, Waiting, Executing}
 use Rattle.rules.specs.declared.Task.{Task}
 use Rattle.rules.specs.declared.Session.{Session}
-use Rattle.rules.specs.Tasks.{isPlain, isWaiting, isExecuting, taskAt, waiting, noTask, withTask}
+use Rattle.rules.specs.Tasks.{isAbsent, isPlain, isWaiting, isExecuting, taskAt, waiting, noTask, withTask}
 
 -- ---- states
+
+pub waiting-not-absent : (state : State) → isWaiting state ≡ true → isAbsent state ≡ false
+waiting-not-absent Absent e = absurd (false≢true e)
+waiting-not-absent Plain e = refl
+waiting-not-absent (Waiting w) e = refl
+waiting-not-absent Executing e = refl
 
 pub waiting-not-plain : (state : State) → isWaiting state ≡ true → isPlain state ≡ false
 waiting-not-plain Absent e = refl

@@ -26,7 +26,7 @@ fn terms_number(t: Terms) -> u8
     0
 }
 
-// The number that a setup gives: 10, 11, then 12 and 13 for the lowest task first, or 0.
+// The number that a setup gives: 10, 11, 14, then 12 and 13 for the lowest task first, or 0.
 pub fn setup_number(u: Setup) -> u8
     ensures { λ number. ⌜ number ≡ setupNumber u ⌝ }
 {
@@ -42,6 +42,9 @@ pub fn setup_number(u: Setup) -> u8
     if 64 < u.n {
         return 11;
     }
+    if 1 < u.mode {
+        return 14;
+    }
     let end = u.n as usize;
     for i in 0..end {
         let t = u.terms[i];
@@ -54,12 +57,13 @@ pub fn setup_number(u: Setup) -> u8
 }
 
 // A session in which nothing has happened.
-fn quiet_session(m: u8, n: u8, tasks: [Task; 64]) -> Session
-    ensures { λ s. ⌜ s ≡ quiet m n tasks ⌝ }
+fn quiet_session(m: u8, n: u8, mode: u8, tasks: [Task; 64]) -> Session
+    ensures { λ s. ⌜ s ≡ quiet m n mode tasks ⌝ }
 {
     Session {
         m: m,
         n: n,
+        mode: mode,
         tick: 0,
         accepted: 0,
         tasks: tasks,
@@ -81,13 +85,14 @@ pub fn setup(u: Setup) -> Started
         state: State::Absent,
         arrival: Arrival::Never,
         releases: 0,
+        rank: 0,
     };
     let mut tasks = [none; 64];
     let number = setup_number(u);
     if number != 0 {
         return Started {
             said: Said::No(number),
-            session: quiet_session(0, 0, tasks),
+            session: quiet_session(0, 0, 0, tasks),
         };
     }
     let end = u.n as usize;
@@ -98,11 +103,12 @@ pub fn setup(u: Setup) -> Started
             state: State::Absent,
             arrival: Arrival::Never,
             releases: 0,
+            rank: 0,
         };
     }
     Started {
         said: Said::Ok,
-        session: quiet_session(u.m, u.n, tasks),
+        session: quiet_session(u.m, u.n, u.mode, tasks),
     }
 }
 
@@ -118,6 +124,7 @@ pub fn no_session() -> Session
     let refused = setup(Setup {
         m: 0,
         n: 0,
+        mode: 0,
         terms: [none; 64],
     });
     refused.session
@@ -135,7 +142,7 @@ fn same_terms(t: Terms, other: Terms) -> bool
     t.transactions == other.transactions
 }
 
-// Two setups are equal if m, n and the numbers of the tasks below n are. An n past the table is cut at 64.
+// Two setups are equal if m, n, the mode and the numbers of the tasks below n are. An n past the table is cut at 64.
 pub fn same_setup(u: Setup, other: Setup) -> bool
     ensures { λ yes. ⌜ yes ≡ sameSetup u other ⌝ }
 {
@@ -143,6 +150,9 @@ pub fn same_setup(u: Setup, other: Setup) -> bool
         return false;
     }
     if u.n != other.n {
+        return false;
+    }
+    if u.mode != other.mode {
         return false;
     }
     for i in 0..64 {

@@ -10,4 +10,4 @@ use Rattle.rules.proofs.Terms as terms
 use Rattle.rules.proofs.Setup as setup
 
 pub table-size : (u : Setup) (values : List Val) → Is (row setup.the-type) u values → length (u .terms) ≡ 64
-table-size u values is = sym (length-map (u .terms) (terms.the-field .into)) ∙ is .1 .1 .1 .1 .0 .1 .0 .1
+table-size u values is = sym (length-map (u .terms) (terms.the-field .into)) ∙ is .1 .1 .1 .1 .1 .0 .1 .0 .1

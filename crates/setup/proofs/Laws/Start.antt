@@ -13,6 +13,7 @@ use Rattle.objects.specs.Below.{all}
 use Rattle.objects.proofs.Laws.Below.{below-suc, below-or-from, and-both, not-true-false, all-from}
 use Rattle.rules.specs.declared.Setup.{Setup}
 use Rattle.rules.specs.declared.Said.the-variants.{Ok, No}
+use Rattle.rules.specs.Ranking.{knownMode}
 use Rattle.rules.specs.Tasks.{allowed, freshTask, noTerms}
 use Rattle.rules.specs.Setup.{termsAt, termsNumber, firstNumber, setupNumber, freshTasks, fresh, noSession, start, sameTerms, sameSetup}
 use Rattle.rules.proofs.Start.{Same, same-parts}
@@ -38,10 +39,11 @@ first-stays u k (suc n) l z g = go (below-suc k n l) (λ m. first-stays u k n m 
     go (inl p) rest = rw (← p, z)
     go (inr m) rest = rw (rest m, ne-eqb (termsNumber (termsAt u k)) 0 g)
 
--- the setup's number is that of its tasks where m and n are allowed
-pub number-of-tasks : (u : Setup) → allowed 16 (u .m) ≡ true → allowed 64 (u .n) ≡ true → setupNumber u ≡ firstNumber u (u .n)
+-- the setup's number is that of its tasks where m and n are allowed and the mode is known
+pub number-of-tasks : (u : Setup) → allowed 16 (u .m) ≡ true → allowed 64 (u .n) ≡ true → knownMode (u .mode) ≡ true
+    → setupNumber u ≡ firstNumber u (u .n)
 unfolding setupNumber
-number-of-tasks u p q = rw (p, q)
+number-of-tasks u p q r = rw (p, q, r)
 
 -- ---- the answer
 
@@ -55,13 +57,16 @@ start-accepted u e = rw e
 
 -- ---- equal setups
 
--- equal where m, n and the terms of each task below n and in the table are: past the table no setup has terms
-pub same-made : (u v : Setup) → length (u .terms) ≡ 64 → length (v .terms) ≡ 64 → u .m ≡ v .m → u .n ≡ v .n
+-- equal where m, n, the mode and the terms of each task below n and in the table are: past the table no setup has terms
+pub same-made : (u v : Setup) → length (u .terms) ≡ 64 → length (v .terms) ≡ 64 → u .m ≡ v .m → u .n ≡ v .n → u .mode ≡ v .mode
     → ((j : ℕ) → j < 64 → j < u .n → sameTerms (termsAt u j) (termsAt v j) ≡ true) → sameSetup u v ≡ true
 unfolding sameSetup
-same-made u v lu lv m n h =
-    and-both (eqb (u .m) (v .m) && eqb (u .n) (v .n)) (all (u .n) (λ j. sameTerms (termsAt u j) (termsAt v j)))
-    (and-both (eqb (u .m) (v .m)) (eqb (u .n) (v .n)) (eq-eqb (u .m) (v .m) m) (eq-eqb (u .n) (v .n) n))
+same-made u v lu lv m n mode h =
+    let a = eqb (u .m) (v .m) in
+    let b = eqb (u .n) (v .n) in
+    let d = eqb (u .mode) (v .mode) in
+    and-both (a && b && d) (all (u .n) (λ j. sameTerms (termsAt u j) (termsAt v j)))
+    (and-both (a && b) d (and-both a b (eq-eqb (u .m) (v .m) m) (eq-eqb (u .n) (v .n) n)) (eq-eqb (u .mode) (v .mode) mode))
     (all-from (u .n) (λ j. sameTerms (termsAt u j) (termsAt v j)) (λ j l. go j l (below-or-from j 64)))
   where
     go : (j : ℕ) → j < u .n → (j < 64) ⊎ (64 ≤ j) → sameTerms (termsAt u j) (termsAt v j) ≡ true

@@ -27,11 +27,14 @@ returns c = let a = c .before .args in sym (differs (a .t1) (a .t2) (λ same. c 
 returns-2 : tie.Need-returns-2 Inv-loop μ-loop
 returns-2 c = let a = c .before .before .args in sym (differs (a .t1) (a .t2) (λ same. c .if2 .taken (same .n)))
 
+returns-3 : tie.Need-returns-3 Inv-loop μ-loop
+returns-3 c = let a = c .before .before .before .args in sym (differs (a .t1) (a .t2) (λ same. c .if3 .taken (same .mode)))
+
 loop-holds : tie.Need-loop-holds Inv-loop μ-loop
 loop-holds c = (omega arith, λ j l. absurd (omega arith))
 
-cast-if3 : tie.Need-cast-if3 Inv-loop μ-loop
-cast-if3 c = search needs
+cast-if4 : tie.Need-cast-if4 Inv-loop μ-loop
+cast-if4 c = search needs
 
 mul-t : tie.Need-mul-t Inv-loop μ-loop
 mul-t c = omega arith
@@ -48,13 +51,13 @@ element-copy-out-o c = omega arith
 same-terms-requires : tie.Need-same-terms-requires Inv-loop μ-loop
 same-terms-requires c κs = search needs
 
-returns-3 : tie.Need-returns-3 Inv-loop μ-loop
-returns-3 c =
+returns-4 : tie.Need-returns-4 Inv-loop μ-loop
+returns-4 c =
     let b = c .before .before .before .before in
-    let a = b .before .before .before .before .before .args in
+    let a = b .before .before .before .before .before .before .args in
     let i = b .before .before .loop .i in
-    sym (differs (a .t1) (a .t2) (λ same. not-both (sameTerms (termsAt (a .t1) i) (termsAt (a .t2) i)) (same .terms i (b .if3 .taken))
-    (sym (c .before .same-terms .ensures) ∙ not-true (c .before .same-terms .result) (c .if4 .taken))))
+    sym (differs (a .t1) (a .t2) (λ same. not-both (sameTerms (termsAt (a .t1) i) (termsAt (a .t2) i)) (same .terms i (b .if4 .taken))
+    (sym (c .before .same-terms .ensures) ∙ not-true (c .before .same-terms .result) (c .if5 .taken))))
 
 add-i : tie.Need-add-i Inv-loop μ-loop
 add-i c = omega arith
@@ -64,18 +67,18 @@ loop-less c = omega arith
 
 loop-again : tie.Need-loop-again Inv-loop μ-loop
 loop-again c =
-    let a = c .before .before .before .before .before .args in
+    let a = c .before .before .before .before .before .before .args in
     let i = c .before .before .loop .i in
     let at-i : i < a .t1 .n → sameTerms (termsAt (a .t1) i) (termsAt (a .t2) i) ≡ true =
-    ⊎-elim (λ w l. sym (w .3 .ensures) ∙ not-false (w .3 .result) (w .4 .left)) (λ w l. absurd (omega arith)) (c .if3 .came) in
+    ⊎-elim (λ w l. sym (w .3 .ensures) ∙ not-false (w .3 .result) (w .4 .left)) (λ w l. absurd (omega arith)) (c .if4 .came) in
     (omega arith, below-more _ i (c .before .before .loop .inv .1) at-i)
 
-returns-4 : tie.Need-returns-4 Inv-loop μ-loop
-returns-4 c =
-    let start = c .before .before .before .before in
+returns-5 : tie.Need-returns-5 Inv-loop μ-loop
+returns-5 c =
+    let start = c .before .before .before .before .before in
     let a = start .args in
     let done : c .before .loop .i ≡ 64 = omega arith in
-    sym (same-made (a .t1) (a .t2) (table-size (a .t1) _ (start .good .0)) (table-size (a .t2) _ (start .good .1 .0)) (c .before .before .before .if1 .left) (c .before .before .if2 .left)
+    sym (same-made (a .t1) (a .t2) (table-size (a .t1) _ (start .good .0)) (table-size (a .t2) _ (start .good .1 .0)) (c .before .before .before .before .if1 .left) (c .before .before .before .if2 .left) (c .before .before .if3 .left)
     (λ j l. c .before .loop .inv .1 j (omega arith)))
 
 pub same-setup-spec : {M : Type 1} → statement M
@@ -86,15 +89,16 @@ same-setup-spec =
     μ-loop
     returns
     returns-2
+    returns-3
     loop-holds
-    cast-if3
+    cast-if4
     mul-t
     element-copy-out-t
     mul-o
     element-copy-out-o
     same-terms-requires
-    returns-3
+    returns-4
     add-i
     loop-less
     loop-again
-    returns-4)
+    returns-5)

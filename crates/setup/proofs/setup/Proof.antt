@@ -10,7 +10,7 @@ use Rattle.rules.specs.declared.Task.{Task}
 use Rattle.rules.specs.declared.Session.{Session}
 use Rattle.rules.specs.declared.Said.the-variants.{Ok, No}
 use Rattle.rules.specs.Tasks.{freshTask}
-use Rattle.rules.specs.Ranking.{byPriority}
+use Rattle.rules.specs.Ranking.{byRank}
 use Rattle.rules.specs.Setup.{termsAt, setupNumber, freshTasks, quiet, fresh, noSession}
 use Rattle.rules.proofs.Fresh.{fresh-sound}
 use Rattle.setup.proofs.Laws.Start.{start-refused, start-accepted, fresh-more}
@@ -29,7 +29,7 @@ accepted c = sym (c .before .setup-number .ensures) ∙ c .if1 .left
 
 within : (c : tie.Else1 Inv-loop μ-loop) → c .before .before .args .t1 .n ≤ 64
 unfolding fresh
-within c = fresh-sound byPriority (c .before .before .args .t1) (accepted c) .n-high
+within c = fresh-sound byRank (c .before .before .args .t1) (accepted c) .n-high
 
 setup-number-requires : tie.Need-setup-number-requires Inv-loop μ-loop
 setup-number-requires c κs = search needs
@@ -86,7 +86,7 @@ returns-2 c =
     let u = b .before .before .args .t1 in
     let done : head .loop .i ≡ u .n = omega arith in
     ap (λ (s : Session). record { said = Ok; session = s })
-    (c .quiet-session2 .ensures ∙ ap (quiet (u .m) (u .n)) (head .loop .inv .1 ∙ ap (freshTasks u) done))
+    (c .quiet-session2 .ensures ∙ ap (quiet (u .m) (u .n) (u .mode)) (head .loop .inv .1 ∙ ap (freshTasks u) done))
     ∙ sym (start-accepted u (accepted b))
 
 pub setup-spec : {M : Type 1} → statement M

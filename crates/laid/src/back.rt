@@ -63,6 +63,7 @@ fn task_back(words: &Words, i: usize) -> Task
         state: state,
         arrival: arrival,
         releases: (words[base + 4] % 256) as u8,
+        rank: words[1160 + i],
     }
 }
 
@@ -85,6 +86,7 @@ pub fn read(words: &Words, s: Session) -> Session
     let mut back = s;
     back.m = (words[0] % 256) as u8;
     back.n = (words[1] % 256) as u8;
+    back.mode = (words[1224] % 256) as u8;
     back.tick = (words[2] % 4294967296) as u32;
     back.accepted = (words[3] % 4294967296) as u32;
     let mut end: usize = 64;

@@ -52,6 +52,7 @@ pub(crate) fn put_numbers(words: &mut Words, i: usize, t: Task)
     words[base + 2] = terms.transactions as u64;
     words[base + 3] = arrival_code(arrival);
     words[base + 4] = t.releases as u64;
+    words[1160 + i] = t.rank;
     words[base + 5] = wait.release as u64;
     words[base + 6] = wait.clashes as u64;
     words[base + 7] = wait.retries as u64;

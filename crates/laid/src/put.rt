@@ -1,47 +1,16 @@
 // A session laid into words: the numbers of each task, then who ranks above it, and its state.
 ghost use mathlib.Core.Path.{_≡_};
 ghost use Prim.Native.Nat.{_<_};
-ghost use Rattle.machine.specs.Opened.{rankIn, aboveWord, statePut, opened};
+ghost use Rattle.machine.specs.Opened.{statePut, opened};
 use crate::numbers::four_of;
 use crate::numbers::put_numbers;
 use machine::Words;
+use placing::put_in_rank;
 use placing::put_in_row;
 use placing::put_sets;
 use rules::Session;
 use rules::State;
 use seek::with_bit;
-
-// The rank of task i, by its priority.
-fn rank_in(words: &Words, i: usize) -> u64
-    requires { ⌜ i < 64 ⌝ }
-    ensures { λ rank. ⌜ rank ≡ rankIn (now (words .entry)) i ⌝ }
-{
-    let priority = words[136 + i * 8];
-    let mut behind: u64 = 0;
-    if priority < 65535 {
-        behind = 65535 - priority;
-    }
-    behind * 64 + i as u64
-}
-
-// Who of the first tasks ranks above task i.
-fn above_word(words: &Words, i: usize) -> u64
-    requires { ⌜ i < 64 ⌝ }
-    ensures { λ word. ⌜ word ≡ aboveWord (now (words .entry)) i ⌝ }
-{
-    let mut end: usize = 64;
-    if words[1] < 64 {
-        end = words[1] as usize;
-    }
-    let mine = rank_in(words, i);
-    let mut word: u64 = 0;
-    for j in 0..end {
-        if rank_in(words, j) < mine {
-            word = with_bit(word, j as u64);
-        }
-    }
-    word
-}
 
 // Task i in its state.
 fn put_state(words: &mut Words, i: usize, state: State)
@@ -75,6 +44,7 @@ pub fn open(words: &mut Words, s: Session)
     words[5] = 0;
     words[6] = 0;
     words[7] = 0;
+    words[1224] = s.mode as u64;
     let mut end: usize = 64;
     if s.n < 64 {
         end = s.n as usize;
@@ -87,7 +57,7 @@ pub fn open(words: &mut Words, s: Session)
         put_sets(words, i as u64, reads, writes);
     }
     for i in 0..end {
-        words[72 + i] = above_word(words, i);
+        put_in_rank(words, i as u64);
         let t = s.tasks[i];
         let state = t.state;
         put_state(words, i, state);

@@ -22,7 +22,7 @@ use Rattle.rules.specs.declared.Session.{Session}
 use Rattle.rules.specs.Ranking.{Ranking}
 use Rattle.rules.specs.Tasks.{isPlain, isWaiting, isExecuting, waitOf, noTask, taskAt, stateAt, withGroups}
 use Rattle.rules.proofs.Laws.Rows.{groups-length, groups-other, groups-same}
-use Rattle.machine.specs.Places.{mOf, nOf, tickOf, acceptedOf, plainOf, waitingOf, executingOf, setPlace, releaseAt, clashesAt, retriesAt, priorityAt, periodAt, transactionsAt, arrivalAt, releasesAt}
+use Rattle.machine.specs.Places.{mOf, nOf, tickOf, acceptedOf, plainOf, waitingOf, executingOf, modeOf, setPlace, releaseAt, clashesAt, retriesAt, priorityAt, periodAt, transactionsAt, arrivalAt, releasesAt}
 use Rattle.machine.specs.Opened.{arrivalCode, arrivalBack, waitBack, stateBack, taskBack, fourAt, tasksBack, readBack}
 use Rattle.machine.specs.Holds.{WaitHeld, TaskHeld, Holds}
 use Rattle.machine.specs.Theorem.{Fits, Sized, Beside, ReadsBack}
@@ -114,7 +114,7 @@ module _ (rank : Ranking) (w : List ℕ) (s : Session) (holds : Holds rank w s) 
       (holds .table .waits i l64 ∙ within-is (s .n) i (isWaiting (stateAt s i)) l)
       (holds .table .executes i l64 ∙ within-is (s .n) i (isExecuting (stateAt s i)) l)
       (λ waits. wait-is w i (waitOf (stateAt s i)) (held .wait waits) (fits .release i) (fits .clashes i) (fits .retries i)) in
-      λ k. record { terms = record { priority = a k; period = b k; transactions = c k }; state = f k; arrival = e k; releases = d k }
+      λ k. record { terms = record { priority = a k; period = b k; transactions = c k }; state = f k; arrival = e k; releases = d k; rank = held .rank k }
 
 -- ---- the session
 
@@ -122,16 +122,17 @@ module _ (rank : Ranking) (w : List ℕ) (s : Session) (holds : Holds rank w s) 
 pub record HeadBack (w : List ℕ) (t : Session) : Type 0 where
   pub m : t .m ≡ mOf w % 256
   pub n : t .n ≡ nOf w % 256
+  pub mode : t .mode ≡ modeOf w % 256
   pub tick : t .tick ≡ tickOf w % 4294967296
   pub accepted : t .accepted ≡ acceptedOf w % 4294967296
 
 -- the session's own numbers stand from the first step on
 head-back : (w : List ℕ) (t : Session) (k : ℕ) → HeadBack w (tasksBack w t k)
 unfolding tasksBack
-head-back w t zero = record { m = refl; n = refl; tick = refl; accepted = refl }
+head-back w t zero = record { m = refl; n = refl; mode = refl; tick = refl; accepted = refl }
 head-back w t (suc k) =
     let h = head-back w t k in
-    record { m = h .m; n = h .n; tick = h .tick; accepted = h .accepted }
+    record { m = h .m; n = h .n; mode = h .mode; tick = h .tick; accepted = h .accepted }
 
 -- four words from a place on, one by one
 pub four-at : (w : List ℕ) (at g : ℕ) → g < 4 → getD (fourAt w at) g 0 ≡ getD w (at + g) 0
@@ -203,10 +204,11 @@ module _ (rank : Ranking) (w : List ℕ) (s t : Session) (holds : Holds rank w s
       let h = head-back w t (s .n) in
       let a : tasksBack w t (s .n) .m ≡ s .m = h .m ∙ (let e : mOf w % 256 ≡ s .m = omega (arith, holds .table .m, fits .m) in e) in
       let b : tasksBack w t (s .n) .n ≡ s .n = h .n ∙ (let e : nOf w % 256 ≡ s .n = omega (arith, holds .table .n, fits .n) in e) in
+      let f : tasksBack w t (s .n) .mode ≡ s .mode = h .mode ∙ (let e : modeOf w % 256 ≡ s .mode = omega (arith, holds .table .mode, fits .mode) in e) in
       let c : tasksBack w t (s .n) .tick ≡ s .tick = h .tick ∙ (let e : tickOf w % 4294967296 ≡ s .tick = omega (arith, holds .table .tick, fits .tick) in e) in
       let d : tasksBack w t (s .n) .accepted ≡ s .accepted =
       h .accepted ∙ (let e : acceptedOf w % 4294967296 ≡ s .accepted = omega (arith, holds .table .accepted, fits .accepted) in e) in
-      λ k. record { m = a k; n = b k; tick = c k; accepted = d k; tasks = tasks-back k; reads = reads-is k; writes = writes-is k }
+      λ k. record { m = a k; n = b k; mode = f k; tick = c k; accepted = d k; tasks = tasks-back k; reads = reads-is k; writes = writes-is k }
 
 -- words that hold a session give it back
 pub reads-back : ReadsBack

@@ -2,7 +2,7 @@
 use Prim.Native.Nat.{ℕ, _+_, _≤_, _<_}
 use mathlib.Core.Path.{_≡_, refl, sym, ap, ap₂, subst, _∙_}
 use mathlib.Core.List.{List}
-use mathlib.Core.Bool.{Bool, true, false, cond, _&&_, false≢true}
+use mathlib.Core.Bool.{Bool, true, false, cond, not, _&&_, false≢true}
 use native.Mathlib.Nat.{lt-of-lt-of-le, le-of-eq}
 use native.Mathlib.Omega.{arith}
 use lib.Dec.{ltb}
@@ -15,23 +15,22 @@ use Rattle.rules.specs.declared.State.{State}
 use Rattle.rules.specs.declared.State.the-variants.{Absent, Plain, Waiting, Executing}
 use Rattle.rules.specs.declared.Task.{Task}
 use Rattle.rules.specs.declared.Session.{Session}
-use Rattle.rules.specs.Ranking.{Ranking}
-use Rattle.rules.specs.Tasks.{isPlain, isWaiting, isExecuting, waitOf, taskAt, stateAt, plain, waiting, executing, setsAt, inState, withTasks, withTask, withSets, stamped}
+use Rattle.rules.specs.Ranking.{Ranking, Stays}
+use Rattle.rules.specs.Tasks.{isAbsent, isPlain, isWaiting, isExecuting, waitOf, taskAt, stateAt, plain, waiting, executing, setsAt, inState, withTasks, withTask, withSets, stamped}
 use Rattle.rules.specs.Room.{rankAt, waitingAbove, ran}
 use Rattle.rules.specs.Events.{oneMore, raisedState, raisedTask, raised, empty, committed}
-use Rattle.rules.proofs.Laws.Alike.{Alike, alike-terms, alike-arrival, alike-releases, alike-state, alike-same, raised-size, raised-alike}
+use Rattle.rules.proofs.Laws.Alike.{Alike, alike-terms, alike-arrival, alike-releases, alike-rank, alike-state, alike-same, raised-size, raised-alike}
 use Rattle.rules.proofs.Moves.{raises, raised-below}
 use Rattle.machine.specs.Bits.{withBit, withoutBit}
-use Rattle.machine.specs.Places.{plainOf, waitingOf, executingOf, rowSize, rowAt, rowHeld, rowTask, releaseAt, clashesAt, retriesAt, numberPlace, setPlace, setsIn}
+use Rattle.machine.specs.Places.{plainOf, waitingOf, executingOf, rowSize, rowAt, rowHeld, rowTask, releaseAt, clashesAt, retriesAt, rankPlace, numberPlace, setPlace, setsIn}
 use Rattle.machine.specs.Asked.{clashIn}
 use Rattle.machine.specs.Events.{stampedIn, hitAt, ranAt, raisedIn, busyIn, endedIn, committedIn}
 use Rattle.machine.specs.Holds.{WaitHeld, TaskHeld, within, Tabled, Holds}
-use Rattle.machine.specs.Theorem.{Fixed}
 use Rattle.machine.proofs.Laws.Places.{chain}
 use Rattle.machine.proofs.Laws.Counting.{row-counted}
 use Rattle.machine.proofs.Laws.Agree.{count-within, waiting-bit, busy-agrees, clash-agrees}
 use Rattle.machine.proofs.Laws.Gapped.{ordered-stays}
-use Rattle.machine.proofs.Laws.Changed.{numbers-like, sets-stay, sets-meet, Leaves, Edit, edit-holds}
+use Rattle.machine.proofs.Laws.Changed.{numbers-like, sets-stay, sets-meet, Ranks, ranks-stay, Leaves, moved-ranks, Edit, edit-holds}
 use Rattle.machine.proofs.Laws.Raised.{raised-aside, raised-length, aside-low, aside-number, aside-set, raised-at}
 use Rattle.machine.proofs.Laws.Edited.{leaves-stamped, leaves-head, leaves-sets, bit-more, bit-less, bit-same, moved-sets, moved-put}
 
@@ -53,7 +52,7 @@ raised-held v j true hadRun t waits release clashes retries = go (t .state) wait
     go (Waiting x) e a b c = record { release = a; clashes = b; retries = c }
     go Executing e a b c = absurd (false≢true e)
 
-module _ (rank : Ranking) (fixed : Fixed rank) (w : List ℕ) (s : Session) (holds : Holds rank w s) (i : ℕ) (below : i < s .n) where
+module _ (rank : Ranking) (stays : Stays rank) (w : List ℕ) (s : Session) (holds : Holds rank w s) (i : ℕ) (below : i < s .n) where
   abbrev table : Tabled rank w s
   table = holds .table
 
@@ -86,7 +85,9 @@ module _ (rank : Ranking) (fixed : Fixed rank) (w : List ℕ) (s : Session) (hol
 
   -- and has the rank that it had
   rank-same : (j : ℕ) → rankAt rank up-session j ≡ rankAt rank s j
-  rank-same j = fixed (taskAt up-session j) (taskAt s j) j (alike-terms (taskAt s j) (taskAt up-session j) (alike j))
+  rank-same j =
+      stays (taskAt up-session j) (taskAt s j) j (alike-terms (taskAt s j) (taskAt up-session j) (alike j))
+      (alike-arrival (taskAt s j) (taskAt up-session j) (alike j)) (alike-rank (taskAt s j) (taskAt up-session j) (alike j))
 
   -- ---- the words with the raised counts
 
@@ -105,6 +106,10 @@ module _ (rank : Ranking) (fixed : Fixed rank) (w : List ℕ) (s : Session) (hol
   -- and so is every number that is no count
   number : (j f : ℕ) → f < 6 → getD up-words (numberPlace j f) 0 ≡ getD w (numberPlace j f) 0
   number j f l = raised-aside w i (busyIn w) (rowHeld w) (numberPlace j f) (aside-number j f l)
+
+  -- and what stands behind them
+  behind : (q : ℕ) → 648 ≤ q → getD up-words q 0 ≡ getD w q 0
+  behind q l = raised-aside w i (busyIn w) (rowHeld w) q (aside-set q l)
 
   -- those that wait above the one at place k are k
   waiting-counted : (k : ℕ) → k < rowSize w → count (s .n) (waitingAbove rank s (rowAt w k)) ≡ k
@@ -157,7 +162,9 @@ module _ (rank : Ranking) (fixed : Fixed rank) (w : List ℕ) (s : Session) (hol
       (alike-terms (taskAt s j) (taskAt up-session j) (alike j))
       (alike-arrival (taskAt s j) (taskAt up-session j) (alike j))
       (alike-releases (taskAt s j) (taskAt up-session j) (alike j))
+      (alike-rank (taskAt s j) (taskAt up-session j) (alike j))
       (λ f h. number j f (omega arith))
+      (behind (rankPlace j) (omega arith))
       (λ e.
       let waits : waiting s j ≡ true = sym (state-same isWaiting (λ x y. refl) j) ∙ e in
       let place = holds .row .all j (lt-of-lt-of-le l (table .few)) (ap₂ (λ (a b : Bool). a && b) (lt-ltb j (s .n) l) waits) in
@@ -175,19 +182,20 @@ module _ (rank : Ranking) (fixed : Fixed rank) (w : List ℕ) (s : Session) (hol
     few = table .few;
     m = low 0 (omega arith) ∙ table .m;
     n = low 1 (omega arith) ∙ table .n;
+    mode = behind 1224 (omega arith) ∙ table .mode;
     tick = low 2 (omega arith) ∙ table .tick;
     accepted = low 3 (omega arith) ∙ table .accepted;
     plains = λ j l. ap (λ (x : ℕ). bit x j) (low 4 (omega arith)) ∙ table .plains j l ∙ within-same isPlain (λ x y. refl) j;
     waits = λ j l. ap (λ (x : ℕ). bit x j) (low 5 (omega arith)) ∙ table .waits j l ∙ within-same isWaiting (λ x y. refl) j;
     executes = λ j l. ap (λ (x : ℕ). bit x j) (low 6 (omega arith)) ∙ table .executes j l ∙ within-same isExecuting (λ x y. refl) j;
-    above = λ j k lj lk.
-        ap (λ (x : ℕ). bit x k) (low (72 + j) (omega (arith, table .few))) ∙ table .above j k lj lk
-        ∙ ap₂ ltb (sym (rank-same k)) (sym (rank-same j));
+    above =
+        ranks-stay rank w up-words s up-session (table .few) refl (λ j l. low (72 + j) (omega arith))
+        (λ j here. (ap not (sym (state-same isAbsent (λ x y. refl) j)) ∙ here, rank-same j)) (table .above);
     numbers = up-numbers;
     sets = λ j l.
         sets-meet (setsIn up-words j) (setsIn w j) (setsAt s j)
-        (sets-stay w up-words j (λ f m. raised-aside w i (busyIn w) (rowHeld w) (setPlace j f) (aside-set (setPlace j f) (omega arith))))
-        (table .sets j l);
+        (sets-stay w up-words j (λ f m. behind (setPlace j f) (omega arith))) (table .sets j l);
+    periods = λ j l. rw (alike-terms (taskAt s j) (taskAt up-session j) (alike j)) (table .periods j l);
   }
 
   -- the words hold the session with the raised counts
@@ -202,7 +210,7 @@ module _ (rank : Ranking) (fixed : Fixed rank) (w : List ℕ) (s : Session) (hol
 
 -- ---- the task's own part
 
-module _ (rank : Ranking) (fixed : Fixed rank) (v : List ℕ) (s : Session) (holds : Holds rank v s) (tick i : ℕ) (below : i < s .n)
+module _ (rank : Ranking) (stays : Stays rank) (v : List ℕ) (s : Session) (holds : Holds rank v s) (tick i : ℕ) (below : i < s .n)
     (was : stateAt s i ≡ Executing) where
   -- the words after it
   abbrev after : List ℕ
@@ -240,11 +248,11 @@ module _ (rank : Ranking) (fixed : Fixed rank) (v : List ℕ) (s : Session) (hol
   -- its numbers are as they were
   numbers : TaskHeld after i t
   numbers =
-      numbers-like v after i (taskAt s i) t refl refl refl
+      numbers-like v after i (taskAt s i) t refl refl refl refl
       (λ f l.
       let field : ltb f 8 ≡ true = lt-ltb f 8 (omega arith) in
       simp (chain, inside, field))
-      (λ e. absurd (false≢true e)) (holds .table .numbers i below)
+      (simp (chain, inside)) (λ e. absurd (false≢true e)) (holds .table .numbers i below)
 
   -- they are as many
   bare-size : length bare ≡ 1280
@@ -266,21 +274,28 @@ module _ (rank : Ranking) (fixed : Fixed rank) (v : List ℕ) (s : Session) (hol
     sets = moved-put rank v s (holds .table) tick i t small bare empty empty bare-size;
   }
 
+  -- its rank is as it was, and so is who ranks above whom
+  ranks : Ranks rank after session
+  ranks =
+      moved-ranks rank v after s i t session (holds .table .few) (edit .moved) (λ j l. simp (chain, lt-ltb j 64 l))
+      (λ e. (ap (λ (x : State). not (isAbsent x)) was, stays t (taskAt s i) i refl refl refl)) (holds .table .above)
+
   -- the words hold the session in which it is plain
   ended-holds : Holds rank after session
-  ended-holds = edit-holds v s i t after session edit rank fixed below (sym (ap isWaiting was)) holds
+  ended-holds =
+      edit-holds v s i t after session edit rank below (ap isWaiting was) refl ranks holds
 
 -- ---- both
 
-module _ (rank : Ranking) (fixed : Fixed rank) (w : List ℕ) (s : Session) (holds : Holds rank w s) (tick i : ℕ) (below : i < s .n)
+module _ (rank : Ranking) (stays : Stays rank) (w : List ℕ) (s : Session) (holds : Holds rank w s) (tick i : ℕ) (below : i < s .n)
     (was : stateAt s i ≡ Executing) where
   -- the session with the raised counts
   abbrev risen : Session
-  risen = up-session rank fixed w s holds i below
+  risen = up-session rank stays w s holds i below
 
   -- task i does not wait, so its own counts stand
   task-same : taskAt risen i ≡ taskAt s i
-  task-same = alike-same (taskAt s i) (taskAt risen i) (ap isWaiting was) (alike rank fixed w s holds i below i)
+  task-same = alike-same (taskAt s i) (taskAt risen i) (ap isWaiting was) (alike rank stays w s holds i below i)
 
   -- the words hold the session after the commit
   pub committed-holds : Holds rank (committedIn w tick i) (committed rank s tick i)
@@ -289,5 +304,5 @@ module _ (rank : Ranking) (fixed : Fixed rank) (w : List ℕ) (s : Session) (hol
       subst (λ (t : Task). Holds rank (endedIn (raisedIn w i (busyIn w) (rowHeld w)) tick i)
       (withSets (withTask (stamped risen tick) i (inState t Plain)) i empty empty))
       task-same
-      (ended-holds rank fixed (raisedIn w i (busyIn w) (rowHeld w)) risen (raised-holds rank fixed w s holds i below) tick i below
+      (ended-holds rank stays (raisedIn w i (busyIn w) (rowHeld w)) risen (raised-holds rank stays w s holds i below) tick i below
       (ap (λ (t : Task). t .state) task-same ∙ was))

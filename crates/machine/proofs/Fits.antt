@@ -64,10 +64,11 @@ tasks-fit s fits j = record {
 }
 
 -- a session fits where its own numbers and those of its tasks do
-pub fits-of : (s : Session) → s .m < 2 ^ 8 → s .n < 2 ^ 8 → s .tick < 2 ^ 32 → s .accepted < 2 ^ 32 → TasksFit (s .tasks) → Fits s
-fits-of s m n tick accepted all = record {
+pub fits-of : (s : Session) → s .m < 2 ^ 8 → s .n < 2 ^ 8 → s .mode < 2 ^ 8 → s .tick < 2 ^ 32 → s .accepted < 2 ^ 32 → TasksFit (s .tasks) → Fits s
+fits-of s m n mode tick accepted all = record {
   m = m;
   n = n;
+  mode = mode;
   tick = tick;
   accepted = accepted;
   priority = λ i. all i .priority;
@@ -95,8 +96,8 @@ state-fits t state a b c fits = record {
 }
 
 -- after an arrival whose tick fits
-arrived-fits : (t : Task) (tick : ℕ) → tick < 2 ^ 32 → TaskFits t → TaskFits (arrived t tick)
-arrived-fits t tick l fits = record {
+arrived-fits : (mode : ℕ) (t : Task) (tick : ℕ) → tick < 2 ^ 32 → TaskFits t → TaskFits (arrived mode t tick)
+arrived-fits mode t tick l fits = record {
   priority = fits .priority;
   period = fits .period;
   transactions = fits .transactions;
@@ -206,8 +207,8 @@ scan-onward rank e s s₁ on =
       n = kept .n ∙ on .n;
       fits = λ l fits.
           let before = on .fits l fits in
-          fits-of s′ (rw (kept .m) (before .m)) (rw (kept .n) (before .n)) (rw (kept .tick) (before .tick)) (rw (kept .accepted) (before .accepted))
-          (λ j. go j (tasks-fit s₁ before j) (kept .each j));
+          fits-of s′ (rw (kept .m) (before .m)) (rw (kept .n) (before .n)) (rw (kept .mode) (before .mode)) (rw (kept .tick) (before .tick))
+          (rw (kept .accepted) (before .accepted)) (λ j. go j (tasks-fit s₁ before j) (kept .each j));
       sized = λ sized.
           let before = on .sized sized in
           record { tasks = kept .size ∙ before .tasks; reads = ap length (kept .reads) ∙ before .reads; writes = ap length (kept .writes) ∙ before .writes };
@@ -261,7 +262,7 @@ change-onward e s i rest t table reads writes ok new on r w = record {
   m = refl;
   n = refl;
   fits = λ l fits.
-      fits-of (after s (e .tick) i t table reads writes) (fits .m) (fits .n) l (omega (arith, ok .accepted))
+      fits-of (after s (e .tick) i t table reads writes) (fits .m) (fits .n) (fits .mode) l (omega (arith, ok .accepted))
       (set-fits table i t (new l (tasks-fit s fits i)) (on .fits (tasks-fit s fits)));
   sized = λ sized. record { tasks = length-set table i t ∙ on .size ∙ sized .tasks; reads = r .size ∙ sized .reads; writes = w .size ∙ sized .writes };
   beside = record {
@@ -287,11 +288,11 @@ module _ (rank : Ranking) (s : Session) (e : Event) where
   t = taskAt s i
 
   -- an arrival that is accepted
-  arrives : arriveNumber s (e .tick) i ≡ 0 → Onward e s (after s (e .tick) i (arrived t (e .tick)) (s .tasks) (s .reads) (s .writes))
+  arrives : arriveNumber s (e .tick) i ≡ 0 → Onward e s (after s (e .tick) i (arrived (s .mode) t (e .tick)) (s .tasks) (s .reads) (s .writes))
   unfolding arriveNumber
   arrives z =
-      change-onward e s i _ (arrived t (e .tick)) (s .tasks) (s .reads) (s .writes) (timely s (e .tick) i _ z) (arrived-fits t (e .tick)) (table-same s)
-      (row-same s (s .reads)) (row-same s (s .writes))
+      change-onward e s i _ (arrived (s .mode) t (e .tick)) (s .tasks) (s .reads) (s .writes) (timely s (e .tick) i _ z)
+      (arrived-fits (s .mode) t (e .tick)) (table-same s) (row-same s (s .reads)) (row-same s (s .writes))
 
   -- a release that is accepted, into a state whose numbers fit
   pub releases : (state : State) → (e .tick < 2 ^ 32 → waitOf state .release < 2 ^ 32) → waitOf state .clashes < 2 ^ 32 → waitOf state .retries < 2 ^ 32

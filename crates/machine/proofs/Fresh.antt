@@ -3,6 +3,7 @@ use Prim.Native.Nat.{ℕ, zero, suc, _^_, _≤_, _<_}
 use mathlib.Core.Path.{_≡_, refl, ap, subst, _∙_}
 use mathlib.Core.List.{List}
 use mathlib.Core.Bool.{Bool, true, false, cond}
+use native.Mathlib.Nat.{not-suc-le-zero}
 use native.Mathlib.Omega.{arith}
 use lib.Dec.{eqb, ltb}
 use lib.ListN.{length, replicate, length-replicate}
@@ -13,17 +14,17 @@ use Rattle.rules.specs.declared.Session.{Session}
 use Rattle.rules.specs.declared.Started.{Started}
 use Rattle.rules.specs.declared.Event.{Event}
 use Rattle.rules.specs.declared.Said.the-variants.{Ok, No}
-use Rattle.rules.specs.Ranking.{byPriority}
-use Rattle.rules.specs.Tasks.{allowed, freshTask, noTerms, noTask}
+use Rattle.rules.specs.Ranking.{byRank}
+use Rattle.rules.specs.Tasks.{allowed, freshTask, noTerms, noTask, taskAt}
 use Rattle.rules.specs.Setup.{termsAt, setupNumber, freshTasks, fresh, noSession, start}
 use Rattle.rules.proofs.Laws.Numbers.{allowed-zero}
 use Rattle.rules.proofs.Laws.Rows.{filled-with}
-use Rattle.rules.proofs.Fresh.{fresh-size, fresh-sound, n-within}
+use Rattle.rules.proofs.Fresh.{fresh-size, fresh-sound, period-bounds, mode-within, n-within}
 use Rattle.rules.proofs.NoTask.{refused-start}
 use Rattle.machine.specs.Places.{mOf, transactionsAt, releasesAt}
 use Rattle.machine.specs.Events.{tryingIn, Outcome, arriveNumberIn, finishNumberIn, releaseNumberIn, commitNumberIn, refusedIn, stillIn, scanningIn, arrivedIn, arriveIn, releaseAcceptedIn, releaseIn, committedIn, commitIn, finishedIn, finishIn, stepIn}
 use Rattle.machine.specs.Opened.{opened}
-use Rattle.machine.specs.Holds.{Holds}
+use Rattle.machine.specs.Holds.{PeriodsFit, Holds}
 use Rattle.machine.specs.Theorem.{Fits, Sized, SetupHolds, RefusedSetup}
 use Rattle.machine.proofs.Laws.Choices.{event-cases}
 use Rattle.machine.proofs.Fits.{TaskFits, TasksFit, fits-of, set-fits}
@@ -53,6 +54,12 @@ start-sized u =
 pub start-few : (u : Setup) → start u .session .n ≤ 64
 unfolding fresh noSession
 start-few u = by-number u (λ s. s .n ≤ 64) (n-within u) (omega arith)
+
+-- the periods of its tasks fit
+pub start-periods : (u : Setup) → PeriodsFit (start u .session)
+unfolding noSession
+start-periods u =
+    by-number u PeriodsFit (λ z i l. omega (arith, period-bounds (taskAt (fresh u) i .terms) (fresh-sound byRank u z .terms i l) .1)) (λ i l. absurd (not-suc-le-zero l))
 
 -- and its numbers fit where those of each task's terms do
 fresh-fits : (t : Terms) → t .priority < 2 ^ 16 → t .period < 2 ^ 32 → t .transactions < 2 ^ 8 → TaskFits (freshTask t)
@@ -84,13 +91,13 @@ unfolding fresh noSession
 start-fits u a b c =
     by-number u Fits
     (λ z.
-    fits-of (fresh u) (omega (arith, fresh-sound byPriority u z .m-high)) (omega (arith, n-within u z)) (omega arith) (omega arith)
-    (fresh-fit u (u .n) (λ i. fresh-fits (termsAt u i) (a i) (b i) (c i))))
-    (fits-of noSession (omega arith) (omega arith) (omega arith) (omega arith) (none-fit 64))
+    fits-of (fresh u) (omega (arith, fresh-sound byRank u z .m-high)) (omega (arith, n-within u z)) (omega (arith, mode-within u z)) (omega arith)
+    (omega arith) (fresh-fit u (u .n) (λ i. fresh-fits (termsAt u i) (a i) (b i) (c i))))
+    (fits-of noSession (omega arith) (omega arith) (omega arith) (omega arith) (omega arith) (none-fit 64))
 
 -- words into which it is laid hold it
-start-holds : (w : List ℕ) (u : Setup) → length w ≡ 1280 → Holds byPriority (opened w (start u .session)) (start u .session)
-start-holds w u size = opened-holds w (start u .session) size (start-sized u) (start-few u)
+start-holds : (w : List ℕ) (u : Setup) → length w ≡ 1280 → Holds byRank (opened w (start u .session)) (start u .session)
+start-holds w u size = opened-holds w (start u .session) size (start-sized u) (start-periods u) (start-few u)
 
 -- a good setup starts the fresh session
 start-good : (u : Setup) → setupNumber u ≡ 0 → start u .session ≡ fresh u
@@ -99,7 +106,7 @@ start-good u z = rw z
 
 -- so the words hold that
 pub setup-holds : SetupHolds
-setup-holds w u size z = subst (λ (s : Session). Holds byPriority (opened w (start u .session)) s) (start-good u z) (start-holds w u size)
+setup-holds w u size z = subst (λ (s : Session). Holds byRank (opened w (start u .session)) s) (start-good u z) (start-holds w u size)
 
 -- ---- a refused setup
 

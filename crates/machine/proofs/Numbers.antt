@@ -12,7 +12,7 @@ use Rattle.rules.specs.declared.Arrival.{Arrival}
 use Rattle.rules.specs.declared.Arrival.the-variants.{Never, At}
 use Rattle.rules.specs.declared.Session.{Session}
 use Rattle.rules.specs.Ranking.{Ranking}
-use Rattle.rules.specs.Tasks.{taskAt, plain, allowed, known}
+use Rattle.rules.specs.Tasks.{isPlain, taskAt, stateAt, plain, allowed, known}
 use Rattle.rules.specs.Room.{room}
 use Rattle.rules.specs.Events.{trying, early, arriveNumber, releaseNumber, commitNumber, finishNumber}
 use Rattle.machine.specs.Places.{tickOf, acceptedOf, plainOf, transactionsAt, releasesAt}
@@ -20,7 +20,8 @@ use Rattle.machine.specs.Asked.{knownIn, leftIn, roomIn}
 use Rattle.machine.specs.Events.{tryingIn, earlyIn, arriveNumberIn, finishNumberIn, releaseNumberIn, commitNumberIn}
 use Rattle.machine.specs.Opened.{arrivalCode}
 use Rattle.machine.specs.Holds.{Tabled}
-use Rattle.machine.proofs.Laws.Agree.{plain-bit, executing-bit, absent-agrees, left-agrees, room-agrees}
+use Rattle.machine.proofs.Laws.Choices.{both}
+use Rattle.machine.proofs.Laws.Agree.{present, plain-bit, executing-bit, absent-agrees, left-agrees, room-agrees}
 
 -- an arrival is early by its code where it is early
 early-coded : (a : Arrival) (period tick : ℕ) → earlyIn (arrivalCode a) period tick ≡ early a period tick
@@ -74,8 +75,11 @@ module _ (rank : Ranking) (w : List ℕ) (s : Session) (table : Tabled rank w s)
   rest-agrees : i < s .n → (x : ℕ)
       → cond (bit (plainOf w) i) (cond (roomIn w (leftIn w) i) x 6) 4 ≡ cond (plain s i) (cond (room rank s i) x 6) 4
   rest-agrees l x =
-      ap₂ (λ (a b : Bool). cond a (cond b x 6) 4) (plain-bit rank w s table i l)
-      (room-agrees rank w s table (leftIn w) i (left-agrees rank w s table) l)
+      both (λ (a b : ℕ). a ≡ b) (plain-bit rank w s table i l)
+      (λ e.
+      ap (λ (b : Bool). cond b x 6)
+      (room-agrees rank w s table (leftIn w) i (left-agrees rank w s table) l (present isPlain refl (stateAt s i) e)))
+      (λ e. refl)
 
   -- of a finish
   pub finish-number : finishNumberIn w tick i ≡ finishNumber rank s tick i

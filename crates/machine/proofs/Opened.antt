@@ -1,7 +1,7 @@
--- Words into which a session is laid hold it: first its own numbers, then the numbers and the sets of each task, then who ranks above it, its state, and where it waits
--- its place in the row.
+-- Words into which a session is laid hold it: first its own numbers, then the numbers and the sets of each task, then who ranks above it and whom it ranks above, its
+-- state, and where it waits its place in the row.
 use Prim.Native.Nat.{ℕ, zero, suc, _+_, _*_, _≤_, _<_, zero-le}
-use mathlib.Core.Path.{_≡_, refl, sym, ap, _∙_}
+use mathlib.Core.Path.{_≡_, refl, sym, ap, ap₂, _∙_}
 use mathlib.Core.Logic.{_⊎_, inl, inr, _≢_}
 use mathlib.Core.List.{List}
 use mathlib.Core.Bool.{Bool, true, false, cond, _&&_, _||_}
@@ -9,28 +9,30 @@ use native.Mathlib.Nat.{not-suc-le-zero, ne-of-lt}
 use native.Mathlib.Omega.{arith}
 use lib.Dec.{eqb, ltb}
 use lib.ListN.{length, getD, set, length-set}
-use borrow.Author.Tests.{eq-eqb, ne-eqb, lt-ltb, le-ltb, ltb-true}
+use borrow.Author.Tests.{eqb-true, eqb-false, eq-eqb, ne-eqb, lt-ltb, le-ltb, ltb-true}
 use Rattle.objects.specs.Objects.{bit}
 use Rattle.objects.proofs.Laws.Below.{below-suc, below-or-from, not-both, and-left}
-use Rattle.objects.proofs.Laws.Bits.{bit-zero, bit-word}
+use Rattle.objects.proofs.Laws.Bits.{bit-zero}
 use Rattle.rules.specs.declared.State.{State}
 use Rattle.rules.specs.declared.State.the-variants.{Absent, Plain, Waiting, Executing}
 use Rattle.rules.specs.declared.Task.{Task}
 use Rattle.rules.specs.declared.Session.{Session}
-use Rattle.rules.specs.Ranking.{byPriority}
+use Rattle.rules.specs.Ranking.{byRank}
 use Rattle.rules.specs.Tasks.{isPlain, isWaiting, isExecuting, waitOf, taskAt, stateAt, plain, waiting, executing, setsAt}
 use Rattle.rules.specs.Room.{rankAt}
 use Rattle.rules.specs.Demand3.{SameSets}
 use Rattle.rules.proofs.Laws.Alike.{at-or-other}
-use Rattle.rules.proofs.Ranking.{priority-strict}
+use Rattle.rules.proofs.Ranking.{rank-strict-and-stays}
 use Rattle.machine.specs.Bits.{withBit}
-use Rattle.machine.specs.Places.{mOf, nOf, tickOf, acceptedOf, plainOf, waitingOf, executingOf, rowSize, aboveOf, numberPlace, priorityAt, setPlace, setsIn, setsPut}
+use Rattle.machine.specs.Places.{mOf, nOf, tickOf, acceptedOf, plainOf, waitingOf, executingOf, rowSize, aboveOf, rankPlace, jobRankAt, modeOf, numberPlace, setPlace, setsIn, setsPut}
+use Rattle.machine.specs.Ranks.{rankIn, ranksMoved}
 use Rattle.machine.specs.Row.{rowPut}
-use Rattle.machine.specs.Opened.{headPut, termsPut, waitPut, fourOf, numbersPut, ranksAbove, aboveWord, statePut, statesPut, held, opened}
+use Rattle.machine.specs.Opened.{headPut, termsPut, waitPut, fourOf, numbersPut, statePut, statesPut, held, opened}
 use Rattle.machine.specs.Holds.{TaskHeld, Ordered}
 use Rattle.machine.specs.Theorem.{OpenedHolds}
 use Rattle.machine.proofs.Laws.Bits.{with-bit}
-use Rattle.machine.proofs.Laws.Places.{kept, put, sized, passes, chain, sets-length, sets-before, sets-own, sets-other}
+use Rattle.machine.proofs.Laws.Places.{kept, put, sized, passes, chain, sets-length, sets-kept, sets-before, sets-own, sets-other}
+use Rattle.machine.proofs.Laws.Ranks.{ranks-size, ranks-kept, ranks-own, ranks-theirs, ranks-others}
 use Rattle.machine.proofs.Laws.RowPut.{row-put-length, row-put-kept, row-put-size, row-put-ordered}
 use Rattle.machine.proofs.Laws.Gapped.{ordered-stays}
 use Rattle.machine.proofs.Laws.Changed.{numbers-stay, sets-stay, sets-meet}
@@ -38,11 +40,12 @@ use Rattle.machine.proofs.Back.{four-at}
 
 -- ---- the session's own numbers
 
--- they stand at the first four places; nobody is in a state, and nobody in the row
+-- they stand at the first four places and the mode behind all others; nobody is in a state, and nobody in the row
 pub record HeadIn (v : List ℕ) (s : Session) : Type 0 where
   pub size : length v ≡ 1280
   pub m : mOf v ≡ s .m
   pub n : nOf v ≡ s .n
+  pub mode : modeOf v ≡ s .mode
   pub tick : tickOf v ≡ s .tick
   pub accepted : acceptedOf v ≡ s .accepted
   pub plains : plainOf v ≡ 0
@@ -56,6 +59,7 @@ head-in w s size = record {
   size = simp (length-set, size);
   m = simp (chain, size);
   n = simp (chain, size);
+  mode = simp (chain, size);
   tick = simp (chain, size);
   accepted = simp (chain, size);
   plains = simp (chain, size);
@@ -75,11 +79,11 @@ module _ (v : List ℕ) (i : ℕ) (t : Task) where
   numbered-size : length v ≡ 1280 → length (numbered v i t) ≡ 1280
   numbered-size size = simp (length-set, size)
 
-  -- every place but its eight is as it was
-  numbered-kept : (q : ℕ) → ((f : ℕ) → f < 8 → numberPlace i f ≢ q) → getD (numbered v i t) q 0 ≡ getD v q 0
-  numbered-kept q apart =
+  -- every place but its eight and that of its job's rank is as it was
+  numbered-kept : (q : ℕ) → ((f : ℕ) → f < 8 → numberPlace i f ≢ q) → rankPlace i ≢ q → getD (numbered v i t) q 0 ≡ getD v q 0
+  numbered-kept q apart rank =
       let differs : (f : ℕ) → ltb f 8 ≡ true → eqb (136 + i * 8 + f) q ≡ false = λ f e. ne-eqb (numberPlace i f) q (apart f (ltb-true f 8 e)) in
-      simp (passes, differs)
+      simp (passes, differs, ne-eqb (rankPlace i) q rank)
 
   -- and those have its numbers
   numbered-held : length v ≡ 1280 → i < 64 → TaskHeld (numbered v i t) i t
@@ -91,15 +95,17 @@ module _ (v : List ℕ) (i : ℕ) (t : Task) where
         transactions = simp (chain, size, below);
         arrival = simp (chain, size, below);
         releases = simp (chain, size, below);
+        rank = simp (chain, size, below);
         wait = λ e. record { release = simp (chain, size, below); clashes = simp (chain, size, below); retries = simp (chain, size, below) };
       }
 
 -- ---- the numbers and the sets of the tasks below k
 
--- words v have them, and before them they are words u
+-- words v have them, and before them they are words u, with the mode of u
 pub record NumbersIn (u : List ℕ) (s : Session) (k : ℕ) (v : List ℕ) : Type 0 where
   pub size : length v ≡ 1280
   pub head : (q : ℕ) → q < 136 → getD v q 0 ≡ getD u q 0
+  pub mode : modeOf v ≡ modeOf u
   pub numbers : (i : ℕ) → i < k → TaskHeld v i (taskAt s i)
   pub sets : (i : ℕ) → i < k → SameSets (setsIn v i) (setsAt s i)
 
@@ -109,7 +115,8 @@ one-more : (u : List ℕ) (s : Session) (k : ℕ) (v : List ℕ) → k < 64 → 
     NumbersIn u s (suc k) (setsPut x k (fourOf (s .reads) k) (fourOf (s .writes) k))
 one-more u s k v l known = record {
   size = sets-length x k reads writes ∙ x-size;
-  head = λ q m. sets-before x k reads writes q (omega arith) ∙ numbered-kept v k t q (λ f lf. omega arith) ∙ known .head q m;
+  head = λ q m. sets-before x k reads writes q (omega arith) ∙ numbered-kept v k t q (λ f lf. omega arith) (omega arith) ∙ known .head q m;
+  mode = sets-kept x k reads writes 1224 (λ g lg. omega arith) ∙ numbered-kept v k t 1224 (λ f lf. omega arith) (omega arith) ∙ known .mode;
   numbers = λ i m. numbers i (below-suc i k m);
   sets = λ i m. sets i (below-suc i k m);
 }
@@ -132,13 +139,18 @@ one-more u s k v l known = record {
     x-size : length x ≡ 1280
     x-size = numbered-size v k t (known .size)
 
+    -- its sets leave every job's rank
+    sets-rank : (i : ℕ) → jobRankAt y i ≡ jobRankAt x i
+    sets-rank i = sets-kept x k reads writes (rankPlace i) (λ g lg. omega arith)
+
     numbers : (i : ℕ) → (i ≡ k) ⊎ (i < k) → TaskHeld y i (taskAt s i)
     numbers i (inl e) =
         rw e
-        (numbers-stay x y k t (λ f lf. sets-before x k reads writes (numberPlace k f) (omega arith)) (numbered-held v k t (known .size) l))
+        (numbers-stay x y k t (λ f lf. sets-before x k reads writes (numberPlace k f) (omega arith)) (sets-rank k) (numbered-held v k t (known .size) l))
     numbers i (inr m) =
         numbers-stay v y i (taskAt s i)
-        (λ f lf. sets-before x k reads writes (numberPlace i f) (omega arith) ∙ numbered-kept v k t (numberPlace i f) (λ g lg. omega arith))
+        (λ f lf. sets-before x k reads writes (numberPlace i f) (omega arith) ∙ numbered-kept v k t (numberPlace i f) (λ g lg. omega arith) (omega arith))
+        (sets-rank i ∙ numbered-kept v k t (rankPlace i) (λ g lg. omega arith) (omega arith))
         (known .numbers i m)
 
     sets : (i : ℕ) → (i ≡ k) ⊎ (i < k) → SameSets (setsIn y i) (setsAt s i)
@@ -148,14 +160,14 @@ one-more u s k v l known = record {
         (sets-own x k reads writes x-size l) (λ g lg. (four-at (s .reads) (k * 4) g lg, four-at (s .writes) (k * 4) g lg)))
     sets i (inr m) =
         sets-meet (setsIn y i) (setsIn x i) (setsAt s i) (sets-other x k reads writes i (λ e. ne-of-lt m (sym e)))
-        (sets-meet (setsIn x i) (setsIn v i) (setsAt s i) (sets-stay v x i (λ f lf. numbered-kept v k t (setPlace i f) (λ g lg. omega arith)))
+        (sets-meet (setsIn x i) (setsIn v i) (setsAt s i) (sets-stay v x i (λ f lf. numbered-kept v k t (setPlace i f) (λ g lg. omega arith) (omega arith)))
         (known .sets i m))
 
 -- of all tasks below k
 numbers-in : (u : List ℕ) (s : Session) → length u ≡ 1280 → (k : ℕ) → k ≤ 64 → NumbersIn u s k (numbersPut u s k)
 unfolding numbersPut
 numbers-in u s size zero h =
-    record { size = size; head = λ q l. refl; numbers = λ i l. absurd (not-suc-le-zero l); sets = λ i l. absurd (not-suc-le-zero l) }
+    record { size = size; head = λ q l. refl; mode = refl; numbers = λ i l. absurd (not-suc-le-zero l); sets = λ i l. absurd (not-suc-le-zero l) }
 numbers-in u s size (suc k) h = one-more u s k (numbersPut u s k) h (numbers-in u s size k (omega arith))
 
 -- ---- the tasks below k that have g
@@ -252,57 +264,62 @@ pub record StatesIn (u : List ℕ) (s : Session) (a k : ℕ) (v : List ℕ) : Ty
   pub plains : (j : ℕ) → j < 64 → bit (plainOf v) j ≡ upto k (plain s) j
   pub waits : (j : ℕ) → j < 64 → bit (waitingOf v) j ≡ upto k (waiting s) j
   pub executes : (j : ℕ) → j < 64 → bit (executingOf v) j ≡ upto k (executing s) j
-  pub above : (i j : ℕ) → i < a → j < s .n → bit (aboveOf v i) j ≡ ltb (rankAt byPriority s j) (rankAt byPriority s i)
-  pub row : Ordered (upto k (waiting s)) (rankAt byPriority s) v (rowSize v)
+  pub above : (i j : ℕ) → i < a → j < s .n → bit (aboveOf v i) j ≡ ltb (rankAt byRank s j) (rankAt byRank s i)
+  pub row : Ordered (upto k (waiting s)) (rankAt byRank s) v (rowSize v)
 
-module _ (u : List ℕ) (s : Session) (few : s .n ≤ 64) (n-is : nOf u ≡ s .n) (priorities : (i : ℕ) → i < s .n → priorityAt u i ≡ taskAt s i .terms .priority) where
-  -- the word that is written for task k
-  above-word : (v : List ℕ) (k j : ℕ) → nOf v ≡ s .n → ((i : ℕ) → i < s .n → priorityAt v i ≡ taskAt s i .terms .priority) → k < s .n → j < s .n
-      → bit (aboveWord v k) j ≡ ltb (rankAt byPriority s j) (rankAt byPriority s k)
-  unfolding aboveWord byPriority
-  above-word v k j n-now now lk lj =
-      bit-word 64 (λ j. ltb j (nOf v) && ranksAbove v k j) j (omega arith)
-      ∙ rw (n-now, lt-ltb j (s .n) lj, now j lj, now k lk)
-
-  -- who ranks above task k is written
-  above-in : (v : List ℕ) (k : ℕ) → k < s .n → StatesIn u s k k v → StatesIn u s (suc k) k (set v (72 + k) (aboveWord v k))
+module _ (u : List ℕ) (s : Session) (few : s .n ≤ 64) (n-is : nOf u ≡ s .n) (ranks : (i : ℕ) → i < s .n → jobRankAt u i ≡ taskAt s i .rank) where
+  -- who ranks above task k is written, and whom it ranks above
+  above-in : (v : List ℕ) (k : ℕ) → k < s .n → StatesIn u s k k v → StatesIn u s (suc k) k (ranksMoved v k)
+  unfolding byRank
   above-in v k l known = record {
-    size = sized v (72 + k) new (known .size);
-    head = λ q m. kept v (72 + k) q new (omega arith) ∙ known .head q m;
-    rest = λ q m. kept v (72 + k) q new (omega arith) ∙ known .rest q m;
-    plains = λ j m. ap (λ (x : ℕ). bit x j) (kept v (72 + k) 4 new (omega arith)) ∙ known .plains j m;
-    waits = λ j m. ap (λ (x : ℕ). bit x j) (kept v (72 + k) 5 new (omega arith)) ∙ known .waits j m;
-    executes = λ j m. ap (λ (x : ℕ). bit x j) (kept v (72 + k) 6 new (omega arith)) ∙ known .executes j m;
-    above = λ i j m lj. above i j lj (below-suc i k m);
+    size = ranks-size v k ∙ known .size;
+    head = λ q m. same q (inl (omega arith)) ∙ known .head q m;
+    rest = λ q m. same q (inr m) ∙ known .rest q m;
+    plains = λ j m. ap (λ (x : ℕ). bit x j) (same 4 (inl (omega arith))) ∙ known .plains j m;
+    waits = λ j m. ap (λ (x : ℕ). bit x j) (same 5 (inl (omega arith))) ∙ known .waits j m;
+    executes = λ j m. ap (λ (x : ℕ). bit x j) (same 6 (inl (omega arith))) ∙ known .executes j m;
+    above = λ i j m lj. above i j lj (below-suc i k m) (eqb j k) refl;
     row =
-        rw (kept v (72 + k) 7 new (omega arith))
-        (ordered-stays (upto k (waiting s)) (upto k (waiting s)) (rankAt byPriority s) (rankAt byPriority s) v (set v (72 + k) new) (rowSize v)
-        (λ j m. refl) (λ j. refl) (λ p m. kept v (72 + k) (8 + p) new (omega (arith, known .row .places))) (known .row));
+        rw (same 7 (inl (omega arith)))
+        (ordered-stays (upto k (waiting s)) (upto k (waiting s)) (rankAt byRank s) (rankAt byRank s) v (ranksMoved v k) (rowSize v)
+        (λ j m. refl) (λ j. refl) (λ p m. same (8 + p) (inl (omega (arith, known .row .places)))) (known .row));
   }
     where
-      new : ℕ
-      new = aboveWord v k
+      small : k < 64
+      small = omega arith
 
-      now : (i : ℕ) → i < s .n → priorityAt v i ≡ taskAt s i .terms .priority
-      now i m = known .rest (numberPlace i 0) (omega arith) ∙ priorities i m
+      same : (q : ℕ) → (q < 72) ⊎ (136 ≤ q) → getD (ranksMoved v k) q 0 ≡ getD v q 0
+      same q out = ranks-kept v k q small out
 
-      above : (i j : ℕ) → j < s .n → (i ≡ k) ⊎ (i < k) → bit (aboveOf (set v (72 + k) new) i) j ≡ ltb (rankAt byPriority s j) (rankAt byPriority s i)
-      above i j lj (inl e) =
-          rw e (ap (λ (x : ℕ). bit x j) (put v (72 + k) new (omega (arith, known .size))) ∙ above-word v k j (known .head 1 (omega arith) ∙ n-is) now l lj)
-      above i j lj (inr m) = ap (λ (x : ℕ). bit x j) (kept v (72 + k) (72 + i) new (omega arith)) ∙ known .above i j m lj
+      n-now : nOf v ≡ s .n
+      n-now = known .head 1 (omega arith) ∙ n-is
+
+      -- the ranks in the words are the session's
+      now : (i : ℕ) → i < s .n → rankIn v i ≡ rankAt byRank s i
+      now i m = ap (λ (x : ℕ). x * 64 + i) (known .rest (rankPlace i) (omega arith) ∙ ranks i m)
+
+      above : (i j : ℕ) → j < s .n → (i ≡ k) ⊎ (i < k) → (b : Bool) → eqb j k ≡ b
+          → bit (aboveOf (ranksMoved v k) i) j ≡ ltb (rankAt byRank s j) (rankAt byRank s i)
+      above i j lj (inl e) b is =
+          rw e (ranks-own v k j (known .size) small (omega (arith, n-now)) (omega (arith, n-now)) ∙ ap₂ ltb (now j lj) (now k l))
+      above i j lj (inr m) true is =
+          rw (eqb-true j k is)
+          (ranks-theirs v k i (known .size) small (omega (arith, n-now)) (omega (arith, n-now)) (omega arith) ∙ ap₂ ltb (now k l) (now i (omega arith)))
+      above i j lj (inr m) false is =
+          ranks-others v k i j (known .size) small (omega arith) (omega arith) (omega arith) (eqb-false j k is) ∙ known .above i j m lj
 
   -- the row stays where the task does not wait
   row-stays : (v x : List ℕ) (k : ℕ) → waiting s k ≡ false → ((q : ℕ) → 7 ≤ q → getD x q 0 ≡ getD v q 0)
-      → Ordered (upto k (waiting s)) (rankAt byPriority s) v (rowSize v) → Ordered (upto (suc k) (waiting s)) (rankAt byPriority s) x (rowSize x)
+      → Ordered (upto k (waiting s)) (rankAt byRank s) v (rowSize v) → Ordered (upto (suc k) (waiting s)) (rankAt byRank s) x (rowSize x)
   row-stays v x k idle same row =
       rw (same 7 (omega arith))
-      (ordered-stays (upto k (waiting s)) (upto (suc k) (waiting s)) (rankAt byPriority s) (rankAt byPriority s) v x (rowSize v)
+      (ordered-stays (upto k (waiting s)) (upto (suc k) (waiting s)) (rankAt byRank s) (rankAt byRank s) v x (rowSize v)
       (λ j m. upto-more k (waiting s) j ∙ ap (λ (b : Bool). cond b (upto k (waiting s) j || eqb j k) (upto k (waiting s) j)) idle) (λ j. refl)
       (λ p m. same (8 + p) (omega arith)) row)
 
   -- the row after the task is in its state
   row-in : (v : List ℕ) (k : ℕ) (state : State) → k < s .n → stateAt s k ≡ state → StatesIn u s (suc k) k v
-      → Ordered (upto (suc k) (waiting s)) (rankAt byPriority s) (statePut v k state) (rowSize (statePut v k state))
+      → Ordered (upto (suc k) (waiting s)) (rankAt byRank s) (statePut v k state) (rowSize (statePut v k state))
   row-in v k Absent l e known = row-stays v v k (ap isWaiting e) (λ q m. refl) (known .row)
   row-in v k Plain l e known = row-stays v (set v 4 (withBit (plainOf v) k)) k (ap isWaiting e) (λ q m. kept v 4 q (withBit (plainOf v) k) (omega arith)) (known .row)
   row-in v k (Waiting x) l e known =
@@ -315,7 +332,7 @@ module _ (u : List ℕ) (s : Session) (few : s .n ≤ 64) (n-is : nOf u ≡ s .n
       f = upto k (waiting s)
 
       r : ℕ → ℕ
-      r = rankAt byPriority s
+      r = rankAt byRank s
 
       new : ℕ
       new = withBit (waitingOf v) k
@@ -345,7 +362,7 @@ module _ (u : List ℕ) (s : Session) (few : s .n ≤ 64) (n-is : nOf u ≡ s .n
           ap (λ (y : ℕ). bit y k) (kept v 5 (72 + j) new (omega arith)) ∙ known .above j k (omega (arith, before j has)) l
 
       apart : (j : ℕ) → j < 64 → f j ≡ true → r j ≢ r k
-      apart j m has q = ne-of-lt (before j has) (priority-strict .0 (taskAt s j) (taskAt s k) j k m (omega arith) q)
+      apart j m has q = ne-of-lt (before j has) (rank-strict-and-stays .0 (taskAt s j) (taskAt s k) j k m (omega arith) q)
   row-in v k Executing l e known =
       row-stays v (set v 6 (withBit (executingOf v) k)) k (ap isWaiting e) (λ q m. kept v 6 q (withBit (executingOf v) k) (omega arith)) (known .row)
 
@@ -376,7 +393,7 @@ module _ (u : List ℕ) (s : Session) (few : s .n ≤ 64) (n-is : nOf u ≡ s .n
   states-in start zero h = start
   states-in start (suc k) h =
       let v = statesPut u s k in
-      state-in (set v (72 + k) (aboveWord v k)) k h (above-in v k h (states-in start k (omega arith)))
+      state-in (ranksMoved v k) k h (above-in v k h (states-in start k (omega arith)))
 
 -- ---- the words hold the session
 
@@ -408,7 +425,7 @@ none-in x u s k head known = record {
 -- words into which a session is laid hold it
 pub opened-holds : OpenedHolds
 unfolding opened
-opened-holds w s size tables few = rw all (record {
+opened-holds w s size tables periods few = rw all (record {
   table = record {
     size = states .size;
     tasks = tables .tasks;
@@ -417,16 +434,20 @@ opened-holds w s size tables few = rw all (record {
     few = few;
     m = states .head 0 (omega arith) ∙ numbers .head 0 (omega arith) ∙ head .m;
     n = states .head 1 (omega arith) ∙ numbers .head 1 (omega arith) ∙ head .n;
+    mode = states .rest 1224 (omega arith) ∙ numbers .mode ∙ head .mode;
     tick = states .head 2 (omega arith) ∙ numbers .head 2 (omega arith) ∙ head .tick;
     accepted = states .head 3 (omega arith) ∙ numbers .head 3 (omega arith) ∙ head .accepted;
     plains = states .plains;
     waits = states .waits;
     executes = states .executes;
-    above = states .above;
-    numbers = λ i l. numbers-stay u v i (taskAt s i) (λ f lf. states .rest (numberPlace i f) (omega arith)) (numbers .numbers i l);
+    above = λ i j l m here there. states .above i j l m;
+    numbers = λ i l.
+        numbers-stay u v i (taskAt s i) (λ f lf. states .rest (numberPlace i f) (omega arith)) (states .rest (rankPlace i) (omega arith))
+        (numbers .numbers i l);
     sets = λ i l.
         sets-meet (setsIn v i) (setsIn u i) (setsAt s i) (sets-stay u v i (λ f lf. states .rest (setPlace i f) (omega arith)))
         (numbers .sets i l);
+    periods = periods;
   };
   row = states .row;
 })
@@ -451,5 +472,5 @@ opened-holds w s size tables few = rw all (record {
 
     states : StatesIn u s (s .n) (s .n) v
     states =
-        states-in u s few (numbers .head 1 (omega arith) ∙ head .n) (λ i l. numbers .numbers i l .priority) (none-in x u s (s .n) head numbers) (s .n)
+        states-in u s few (numbers .head 1 (omega arith) ∙ head .n) (λ i l. numbers .numbers i l .rank) (none-in x u s (s .n) head numbers) (s .n)
         (omega arith)

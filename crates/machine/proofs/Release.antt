@@ -2,41 +2,41 @@
 use Prim.Native.Nat.{ℕ, _+_, _<_}
 use mathlib.Core.Path.{_≡_, refl, sym, ap, ap₂, _∙_}
 use mathlib.Core.List.{List}
-use mathlib.Core.Bool.{Bool, true, false, cond, _||_, or-false, _&&_, false≢true}
+use mathlib.Core.Bool.{Bool, true, false, cond, not, _||_, or-false, _&&_, false≢true}
 use native.Mathlib.Nat.{lt-of-lt-of-le}
 use native.Mathlib.Omega.{arith}
 use lib.Dec.{eqb, ltb}
 use lib.ListN.{length, getD, set, length-set}
 use borrow.Author.Tests.{eq-eqb, ne-eqb, lt-ltb, ltb-true}
 use Rattle.objects.specs.Objects.{bit}
-use Rattle.objects.proofs.Laws.Below.{not-both, and-left, or-right}
+use Rattle.objects.proofs.Laws.Below.{not-both, and-left, and-right, or-left, or-right}
 use Rattle.rules.specs.declared.State.{State}
 use Rattle.rules.specs.declared.State.the-variants.{Absent, Plain, Executing}
 use Rattle.rules.specs.declared.Task.{Task}
 use Rattle.rules.specs.declared.Session.{Session}
-use Rattle.rules.specs.Ranking.{Ranking, Strict}
-use Rattle.rules.specs.Tasks.{isPlain, isWaiting, isExecuting, waitOf, taskAt, stateAt, waiting, executing, setsAt, setsOf}
+use Rattle.rules.specs.Ranking.{Ranking, Strict, Stays}
+use Rattle.rules.specs.Tasks.{isAbsent, isPlain, isWaiting, isExecuting, waitOf, taskAt, stateAt, waiting, executing, setsAt, setsOf}
 use Rattle.rules.specs.Room.{rankAt}
 use Rattle.rules.specs.Contest.{blocked}
+use Rattle.rules.specs.Demand3.{presentAt}
 use Rattle.rules.proofs.Laws.Rows.{Agree}
 use Rattle.rules.proofs.Laws.Alike.{at-or-other}
 use Rattle.rules.specs.Events.{released, releasedInto, begins, waitSaid}
 use Rattle.machine.specs.Bits.{withBit, withoutBit}
-use Rattle.machine.specs.Places.{plainOf, waitingOf, executingOf, rowSize, numberPlace, releasesAt, setsIn, setsPut}
+use Rattle.machine.specs.Places.{plainOf, waitingOf, executingOf, rowSize, aboveOf, jobRankAt, numberPlace, releasesAt, setsIn, setsPut}
 use Rattle.machine.specs.Asked.{blockedIn, waitSaidIn}
 use Rattle.machine.specs.Row.{rowPut}
 use Rattle.machine.specs.Events.{stampedIn, begunIn, releasedIn, runsIn, deferredIn, waitsIn}
 use Rattle.machine.specs.Holds.{Ordered, WaitHeld, TaskHeld, within, Tabled, Holds}
-use Rattle.machine.specs.Theorem.{Fixed}
 use Rattle.machine.proofs.Laws.Places.{chain}
-use Rattle.machine.proofs.Laws.Agree.{plain-bit, waiting-bit, executing-bit, blocked-agrees, wait-said-agrees}
+use Rattle.machine.proofs.Laws.Agree.{present, plain-bit, waiting-bit, executing-bit, blocked-agrees, wait-said-agrees}
 use Rattle.machine.proofs.Laws.Gapped.{ordered-stays}
-use Rattle.machine.proofs.Laws.Changed.{numbers-like, edit-rank, sets-stay, sets-meet, Leaves, Moved, Edit, edit-size, edit-row, edit-table, edit-holds}
+use Rattle.machine.proofs.Laws.Changed.{numbers-like, sets-stay, sets-meet, Ranks, Leaves, Moved, moved-ranks, Edit, edit-size, edit-row, edit-table, edit-holds}
 use Rattle.machine.proofs.Laws.RowPut.{row-put-length, row-put-kept, row-put-size, row-put-ordered}
 use Rattle.machine.proofs.Laws.Asking.{blocked-same, said-same}
 use Rattle.machine.proofs.Laws.Edited.{leaves-stamped, leaves-head, leaves-number, leaves-sets, bit-more, bit-less, bit-same, moved-sets, moved-own, moved-put, moved-again, table-stays}
 
-module _ (rank : Ranking) (fixed : Fixed rank) (w : List ℕ) (s : Session) (holds : Holds rank w s) (tick i : ℕ) (below : i < s .n)
+module _ (rank : Ranking) (stays : Stays rank) (w : List ℕ) (s : Session) (holds : Holds rank w s) (tick i : ℕ) (below : i < s .n)
     (was : stateAt s i ≡ Plain) (reads writes : List ℕ) where
   -- the words before its sets stand there
   abbrev bare : List ℕ
@@ -80,12 +80,30 @@ module _ (rank : Ranking) (fixed : Fixed rank) (w : List ℕ) (s : Session) (hol
         transactions = simp (chain, inside) (held .transactions);
         arrival = simp (chain, inside) (held .arrival);
         releases = simp (chain, size, inside) (ap (λ (k : ℕ). k + 1) (held .releases));
+        rank = simp (chain, inside) (held .rank);
         wait = λ e. absurd (false≢true e);
       }
 
   -- nothing but the task is another in the session
-  moved : Moved s i gone (session Absent)
-  moved = moved-sets rank w s (holds .table) tick i gone small reads writes
+  moved : (state : State) → Moved s i (released (taskAt s i) state) (session state)
+  moved state = moved-sets rank w s (holds .table) tick i (released (taskAt s i) state) small reads writes
+
+  -- its rank is as it was
+  same-rank : (state : State) → rank (released (taskAt s i) state) i ≡ rankAt rank s i
+  same-rank state = stays (released (taskAt s i) state) (taskAt s i) i refl refl refl
+
+  -- every rank is
+  into-ranked : (state : State) (j : ℕ) → rankAt rank (session state) j ≡ rankAt rank s j
+  into-ranked state =
+      at-or-other i (λ (j : ℕ). rankAt rank (session state) j ≡ rankAt rank s j)
+      (ap (λ (t : Task). rank t i) (moved state .here) ∙ same-rank state)
+      (λ j d. ap (λ (t : Task). rank t j) (moved state .others j d))
+
+  -- and so is who ranks above whom, in words that say what these said of it
+  into-ranks : (state : State) (x : List ℕ) → ((j : ℕ) → j < 64 → aboveOf x j ≡ aboveOf w j) → Ranks rank x (session state)
+  into-ranks state x same =
+      moved-ranks rank w x s i (released (taskAt s i) state) (session state) (holds .table .few) (moved state) same
+      (λ e. (ap (λ (x : State). not (isAbsent x)) was, same-rank state)) (holds .table .above)
 
   -- the words are as many
   bare-size : length bare ≡ 1280
@@ -94,7 +112,7 @@ module _ (rank : Ranking) (fixed : Fixed rank) (w : List ℕ) (s : Session) (hol
   -- so one task alone is changed
   between-edit : Edit w s i gone between (session Absent)
   between-edit = record {
-    moved = moved;
+    moved = moved Absent;
     leaves = between-leaves;
     size = simp chain size;
     tick = simp (chain, size);
@@ -107,33 +125,37 @@ module _ (rank : Ranking) (fixed : Fixed rank) (w : List ℕ) (s : Session) (hol
     sets = moved-put rank w s (holds .table) tick i gone small bare reads writes bare-size;
   }
 
+  -- who ranks above whom is as it was
+  between-above : (j : ℕ) → j < 64 → aboveOf between j ≡ aboveOf w j
+  between-above j l = simp (chain, lt-ltb j 64 l)
+
   -- and the words in between hold that session
   between-holds : Holds rank between (session Absent)
-  between-holds = edit-holds w s i gone between (session Absent) between-edit rank fixed below (sym (ap isWaiting was)) holds
+  between-holds = edit-holds w s i gone between (session Absent) between-edit rank below (ap isWaiting was) refl (into-ranks Absent between between-above) holds
 
   -- ---- after it
 
   -- another state
   moved-into : (state : State) → Moved (session Absent) i (released (taskAt s i) state) (session state)
-  moved-into state = moved-again s tick i gone (released (taskAt s i) state) reads writes moved (omega (arith, holds .table .tasks))
+  moved-into state = moved-again s tick i gone (released (taskAt s i) state) reads writes (moved Absent) (omega (arith, holds .table .tasks))
 
   -- the state in between is that of one that is absent
   was-absent : (f : State → Bool) → f (stateAt (session Absent) i) ≡ f Absent
-  was-absent f = ap (λ (t : Task). f (t .state)) (moved .here)
+  was-absent f = ap (λ (t : Task). f (t .state)) (moved Absent .here)
 
   -- its terms are as they were
   gone-terms : (state : State) → released (taskAt s i) state .terms ≡ taskAt (session Absent) i .terms
-  gone-terms state = ap (λ (t : Task). t .terms) (sym (moved .here))
+  gone-terms state = ap (λ (t : Task). t .terms) (sym (moved Absent .here))
 
-  module _ (v : List ℕ) (held : Holds rank v (session Absent)) where
+  module _ (v : List ℕ) (held : Holds rank v (session Absent)) (above : (j : ℕ) → j < 64 → aboveOf v j ≡ aboveOf w j) where
     abbrev table : Tabled rank v (session Absent)
     table = held .table
 
     -- its numbers that go by no wait
     into-numbers : (state : State) (x : List ℕ) → ((f : ℕ) → f < 5 → getD x (numberPlace i f) 0 ≡ getD v (numberPlace i f) 0)
-        → (isWaiting state ≡ true → WaitHeld x i (waitOf state)) → TaskHeld x i (released (taskAt s i) state)
-    into-numbers state x same waits =
-        numbers-like v x i gone (released (taskAt s i) state) refl refl refl same waits (rw (moved .here) at (table .numbers i below))
+        → jobRankAt x i ≡ jobRankAt v i → (isWaiting state ≡ true → WaitHeld x i (waitOf state)) → TaskHeld x i (released (taskAt s i) state)
+    into-numbers state x same ranked waits =
+        numbers-like v x i gone (released (taskAt s i) state) refl refl refl refl same ranked waits (rw (moved Absent .here) at (table .numbers i below))
 
     -- a word of a state that it is not in
     plain-same : (j : ℕ) → bit (plainOf v) j ≡ cond (eqb j i) false (bit (plainOf v) j)
@@ -163,15 +185,15 @@ module _ (rank : Ranking) (fixed : Fixed rank) (w : List ℕ) (s : Session) (hol
       waits = λ j l. simp chain (waiting-same j);
       executes = λ j l. simp (chain, table .size) (bit-more (executingOf v) i j l);
       terms = gone-terms Executing;
-      numbers = into-numbers Executing running (λ f l. simp chain) (λ e. absurd (false≢true e));
+      numbers = into-numbers Executing running (λ f l. simp chain) (simp chain) (λ e. absurd (false≢true e));
       sets = sets-meet (setsIn running i) (setsIn v i) (setsAt (session Executing) i) (sets-stay v running i (λ f l. simp chain)) (table .sets i below);
     }
 
     -- the words hold the session in which it executes
     running-holds : Holds rank running (session Executing)
     running-holds =
-        edit-holds v (session Absent) i (released (taskAt s i) Executing) running (session Executing) running-edit rank fixed below
-        (sym (was-absent isWaiting)) held
+        edit-holds v (session Absent) i (released (taskAt s i) Executing) running (session Executing) running-edit rank below
+        (was-absent isWaiting) refl (into-ranks Executing running (λ j l. simp chain (above j l))) held
 
     -- ---- it waits, before it stands in the row
 
@@ -204,7 +226,7 @@ module _ (rank : Ranking) (fixed : Fixed rank) (w : List ℕ) (s : Session) (hol
       executes = λ j l. simp chain (executing-same j);
       terms = gone-terms (begins tick);
       numbers =
-          into-numbers (begins tick) deferred deferred-numbers
+          into-numbers (begins tick) deferred deferred-numbers (simp (chain, inside))
           (λ e. record { release = simp (chain, table .size, inside); clashes = simp (chain, table .size, inside); retries = simp (chain, table .size, inside) });
       sets = sets-meet (setsIn deferred i) (setsIn v i) (setsAt (session (begins tick)) i) (sets-stay v deferred i (λ f l. simp (chain, inside))) (table .sets i below);
     }
@@ -212,7 +234,8 @@ module _ (rank : Ranking) (fixed : Fixed rank) (w : List ℕ) (s : Session) (hol
     -- all but the row is held
     deferred-table : Tabled rank deferred (session (begins tick))
     deferred-table =
-        edit-table v (session Absent) i (released (taskAt s i) (begins tick)) deferred (session (begins tick)) deferred-edit rank fixed below table
+        edit-table v (session Absent) i (released (taskAt s i) (begins tick)) deferred (session (begins tick)) deferred-edit rank below table
+        (into-ranks (begins tick) deferred (λ j l. simp (chain, lt-ltb j 64 l) (above j l)))
 
     -- ---- and in the row
 
@@ -228,7 +251,7 @@ module _ (rank : Ranking) (fixed : Fixed rank) (w : List ℕ) (s : Session) (hol
     deferred-row : Ordered before ranks deferred (rowSize v)
     deferred-row =
         ordered-stays before before (rankAt rank (session Absent)) ranks v deferred (rowSize v) (λ j l. refl)
-        (edit-rank v (session Absent) i (released (taskAt s i) (begins tick)) deferred (session (begins tick)) deferred-edit rank fixed)
+        (λ j. into-ranked (begins tick) j ∙ sym (into-ranked Absent j))
         (λ k l. edit-row v (session Absent) i (released (taskAt s i) (begins tick)) deferred (session (begins tick)) deferred-edit k
         (lt-of-lt-of-le l (held .row .places)))
         (held .row)
@@ -247,6 +270,12 @@ module _ (rank : Ranking) (fixed : Fixed rank) (w : List ℕ) (s : Session) (hol
         ap (λ (t : Task). ltb j (s .n) && isWaiting (t .state)) (moved-into (begins tick) .others j d)
         ∙ sym (ap (λ (b : Bool). before j || b) (ne-eqb j i d) ∙ or-false (before j)))
 
+    -- whoever waits is present
+    waits-present : (j : ℕ) → (before j || eqb j i) ≡ true → presentAt (session (begins tick)) j ≡ true
+    waits-present j e =
+        present isWaiting refl (stateAt (session (begins tick)) j)
+        (and-right (ltb j (s .n)) (waiting (session (begins tick)) j) (waits-too j ∙ e))
+
     -- the row's size is as it was
     deferred-size : rowSize deferred ≡ rowSize v
     deferred-size = edit-size v (session Absent) i (released (taskAt s i) (begins tick)) deferred (session (begins tick)) deferred-edit
@@ -259,7 +288,9 @@ module _ (rank : Ranking) (fixed : Fixed rank) (w : List ℕ) (s : Session) (hol
     put-row : Strict rank → Ordered (λ j. before j || eqb j i) ranks (rowPut deferred i) (rowSize v + 1)
     put-row strict =
         row-put-ordered before ranks deferred (rowSize v) i (deferred-table .size) deferred-size deferred-row small new
-        (λ j l e. deferred-table .above j i (ltb-true j (s .n) (and-left (ltb j (s .n)) (waiting (session Absent) j) e)) below)
+        (λ j l e.
+        deferred-table .above j i (ltb-true j (s .n) (and-left (ltb j (s .n)) (waiting (session Absent) j) e)) below
+        (waits-present j (or-left (before j) (eqb j i) e)) (waits-present i (or-right (before i) (eqb i i) (eq-eqb i i refl))))
         (λ j l e same. not-both (before i) (ap before (sym (strict (taskAt (session (begins tick)) j) (taskAt (session (begins tick)) i) j i l small same)) ∙ e) new)
 
     -- the words hold the session in which it waits
@@ -280,18 +311,14 @@ module _ (rank : Ranking) (fixed : Fixed rank) (w : List ℕ) (s : Session) (hol
   between-executes : (j : ℕ) → executing (session Absent) j ≡ executing s j
   between-executes =
       at-or-other i (λ (j : ℕ). executing (session Absent) j ≡ executing s j) (was-absent isExecuting ∙ sym (ap isExecuting was))
-      (λ j d. ap (λ (t : Task). isExecuting (t .state)) (moved .others j d))
+      (λ j d. ap (λ (t : Task). isExecuting (t .state)) (moved Absent .others j d))
 
-  -- with the same ranks
-  between-ranked : (j : ℕ) → rankAt rank (session Absent) j ≡ rankAt rank s j
-  between-ranked = edit-rank w s i gone between (session Absent) between-edit rank fixed
-
-  -- and the same sets
+  -- with the same sets
   between-others : (j : ℕ) → executing s j ≡ true → Agree (setsAt (session Absent) j) (setsAt s j)
   between-others =
       at-or-other i (λ (j : ℕ). executing s j ≡ true → Agree (setsAt (session Absent) j) (setsAt s j))
       (λ e. absurd (not-both (executing s i) e (ap isExecuting was)))
-      (λ j d e. record { reads = λ g l. moved .sets j d g l .0; writes = λ g l. moved .sets j d g l .1 })
+      (λ j d e. record { reads = λ g l. moved Absent .sets j d g l .0; writes = λ g l. moved Absent .sets j d g l .1 })
 
   -- its own sets are those that it brings
   between-own : Agree (setsAt (session Absent) i) (setsOf reads writes)
@@ -310,25 +337,30 @@ module _ (rank : Ranking) (fixed : Fixed rank) (w : List ℕ) (s : Session) (hol
   unfolding releasedIn
   released-holds = between-holds
 
+  -- and say what was said of who ranks above whom
+  released-above : (j : ℕ) → j < 64 → aboveOf words j ≡ aboveOf w j
+  unfolding releasedIn
+  released-above = between-above
+
   -- it is blocked where the rules say so
   pub released-blocked : blockedIn words i ≡ blocked s (setsOf reads writes)
   released-blocked =
       blocked-agrees rank words (session Absent) (released-holds .table) i below
-      ∙ blocked-same rank s (session Absent) (setsOf reads writes) (setsAt (session Absent) i) refl between-own between-ranked between-executes between-others
+      ∙ blocked-same rank s (session Absent) (setsOf reads writes) (setsAt (session Absent) i) refl between-own (into-ranked Absent) between-executes between-others
 
   -- what is said of its wait is what the rules say
   pub released-said : blocked s (setsOf reads writes) ≡ true → waitSaidIn words i ≡ waitSaid rank s (setsOf reads writes)
   released-said e =
       wait-said-agrees rank words (session Absent) (released-holds .table) i below
-      (blocked-same rank s (session Absent) (setsOf reads writes) (setsAt (session Absent) i) refl between-own between-ranked between-executes between-others ∙ e)
-      ∙ said-same rank s (session Absent) (setsOf reads writes) (setsAt (session Absent) i) refl between-own between-ranked between-executes between-others
+      (blocked-same rank s (session Absent) (setsOf reads writes) (setsAt (session Absent) i) refl between-own (into-ranked Absent) between-executes between-others ∙ e)
+      ∙ said-same rank s (session Absent) (setsOf reads writes) (setsAt (session Absent) i) refl between-own (into-ranked Absent) between-executes between-others
 
   -- where it runs they hold the session in which it executes
   pub runs-holds : Holds rank (runsIn words i) (session Executing)
   unfolding runsIn
-  runs-holds = running-holds words released-holds
+  runs-holds = running-holds words released-holds released-above
 
   -- where it waits they hold the session in which it does
   pub waits-holds : Strict rank → Holds rank (waitsIn words tick i) (session (begins tick))
   unfolding waitsIn
-  waits-holds = waiting-holds words released-holds
+  waits-holds = waiting-holds words released-holds released-above

@@ -18,7 +18,7 @@ use Rattle.rules.specs.declared.State.the-variants.{Executing}
 use Rattle.rules.specs.declared.Task.{Task}
 use Rattle.rules.specs.declared.Session.{Session}
 use Rattle.rules.specs.declared.Admission.{Admission}
-use Rattle.rules.specs.Ranking.{Ranking, Strict}
+use Rattle.rules.specs.Ranking.{Ranking, Strict, Stays}
 use Rattle.rules.specs.Tasks.{isWaiting, waitOf, taskAt, stateAt, waiting, executing, setsAt, inState}
 use Rattle.rules.specs.Room.{rankAt, room}
 use Rattle.rules.specs.Contest.{blocked}
@@ -34,11 +34,11 @@ use Rattle.machine.specs.Bits.{withBit, withoutBit}
 use Rattle.machine.specs.Places.{plainOf, waitingOf, executingOf, rowSize, rowAt, rowHeld, rowTask, clashesAt, retriesAt, releaseAt, setsIn}
 use Rattle.machine.specs.Row.{Scan, listPut, executesIn, admitIn, keepIn, admissibleIn, lookAt, lookTo, scanFrom, closedUp, scanIn}
 use Rattle.machine.specs.Holds.{WaitHeld, within, Tabled, Holds}
-use Rattle.machine.specs.Theorem.{Fixed, listedAt, sinceAt}
+use Rattle.machine.specs.Theorem.{listedAt, sinceAt}
 use Rattle.machine.proofs.Laws.Choices.{both}
 use Rattle.machine.proofs.Laws.Places.{kept, put, sized, chain}
-use Rattle.machine.proofs.Laws.Agree.{plain-bit, left-agrees, room-agrees, blocked-agrees}
-use Rattle.machine.proofs.Laws.Changed.{numbers-like, sets-stay, sets-meet, Edit, edit-table}
+use Rattle.machine.proofs.Laws.Agree.{present, plain-bit, left-agrees, room-agrees, blocked-agrees}
+use Rattle.machine.proofs.Laws.Changed.{numbers-like, sets-stay, sets-meet, Ranks, moved-ranks, Edit, edit-table}
 use Rattle.machine.proofs.Laws.Edited.{leaves-head, bit-more, bit-less, bit-same, moved-task, table-stays}
 use Rattle.machine.proofs.Laws.Gapped.{ordered-stays, Gapped, gapped-first, gapped-closed, gapped-like, leave, keep}
 use Rattle.machine.proofs.Laws.Counting.{but, but-self, but-other}
@@ -62,7 +62,7 @@ ScanAgrees rank w list s = Agrees rank s (scanIn w list) (scan rank s)
 executes-row : (w : List ℕ) (i k : ℕ) → rowAt (executesIn w i) k ≡ rowAt w k
 executes-row w i k = simp chain
 
-module _ (rank : Ranking) (fixed : Fixed rank) (w : List ℕ) (s : Session) (table : Tabled rank w s) (i : ℕ) (below : i < s .n) (waits : waiting s i ≡ true) where
+module _ (rank : Ranking) (stays : Stays rank) (w : List ℕ) (s : Session) (table : Tabled rank w s) (i : ℕ) (below : i < s .n) (waits : waiting s i ≡ true) where
   -- the task, executing
   abbrev now : Task
   now = inState (taskAt s i) Executing
@@ -84,13 +84,19 @@ module _ (rank : Ranking) (fixed : Fixed rank) (w : List ℕ) (s : Session) (tab
     waits = λ j l. simp (chain, table .size) (bit-less (waitingOf w) i j l);
     executes = λ j l. simp (chain, table .size) (bit-more (executingOf w) i j l);
     terms = refl;
-    numbers = numbers-like w (executesIn w i) i (taskAt s i) now refl refl refl (λ f l. simp chain) (λ e. absurd (false≢true e)) (table .numbers i below);
+    numbers = numbers-like w (executesIn w i) i (taskAt s i) now refl refl refl refl (λ f l. simp chain) (simp chain) (λ e. absurd (false≢true e)) (table .numbers i below);
     sets = sets-meet (setsIn (executesIn w i) i) (setsIn w i) (setsAt s i) (sets-stay w (executesIn w i) i (λ f l. simp chain)) (table .sets i below);
   }
 
+  -- its rank is as it was, and so is who ranks above whom
+  executes-ranks : Ranks rank (executesIn w i) (admitted s i)
+  executes-ranks =
+      moved-ranks rank w (executesIn w i) s i now (admitted s i) (table .few) (executes-edit .moved) (λ j l. simp chain)
+      (λ e. (present isWaiting refl (stateAt s i) waits, stays now (taskAt s i) i refl refl refl)) (table .above)
+
   -- so the words hold the tables of the session in which it executes
   executes-tabled : Tabled rank (executesIn w i) (admitted s i)
-  executes-tabled = edit-table w s i now (executesIn w i) (admitted s i) executes-edit rank fixed below table
+  executes-tabled = edit-table w s i now (executesIn w i) (admitted s i) executes-edit rank below table executes-ranks
 
 -- ---- one more admission in the list
 
@@ -131,7 +137,7 @@ module _ (list : List ℕ) (k task clashes retries release : ℕ) where
 
 -- ---- place by place
 
-module _ (rank : Ranking) (strict : Strict rank) (fixed : Fixed rank) (w : List ℕ) (s : Session) (few : s .m ≤ 16) (held : Holds rank w s) where
+module _ (rank : Ranking) (strict : Strict rank) (stays : Stays rank) (w : List ℕ) (s : Session) (few : s .m ≤ 16) (held : Holds rank w s) where
   -- a row in order has the waiting tasks
   order : Row rank s (rowAt w) (rowSize w)
   order = record {
@@ -141,13 +147,13 @@ module _ (rank : Ranking) (strict : Strict rank) (fixed : Fixed rank) (w : List 
     all = λ i l e. held .row .all i (lt-of-lt-of-le l (held .table .few)) (and-both (ltb i (s .n)) (waiting s i) (lt-ltb i (s .n) l) e);
   }
 
-  -- a scan keeps the terms, and so the ranks
+  -- a scan keeps the ranks
   kept-rank : (s′ : Session) → Kept s s′ → (j : ℕ) → rankAt rank s′ j ≡ rankAt rank s j
-  kept-rank s′ k j = fixed (taskAt s′ j) (taskAt s j) j (go (k .each j))
+  kept-rank s′ k j = go (k .each j)
     where
-      go : EachKept s s′ j → taskAt s′ j .terms ≡ taskAt s j .terms
-      go (inl e) = ap (λ (t : Task). t .terms) e
-      go (inr e) = ap (λ (t : Task). t .terms) (e .2)
+      go : EachKept s s′ j → rankAt rank s′ j ≡ rankAt rank s j
+      go (inl e) = ap (λ (t : Task). rank t j) e
+      go (inr e) = ap (λ (t : Task). rank t j) (e .2) ∙ stays (inState (taskAt s j) Executing) (taskAt s j) j refl refl refl
 
   -- a number put into the row, or how many stand in it, leaves the table
   row-table : (v : List ℕ) (s′ : Session) (p x : ℕ) → 7 ≤ p → p < 72 → Tabled rank v s′ → Tabled rank (set v p x) s′
@@ -200,7 +206,8 @@ module _ (rank : Ranking) (strict : Strict rank) (fixed : Fixed rank) (w : List 
       unfolding admissible
       here-asked =
           ap₂ (λ (b c : Bool). b && not c)
-          (room-agrees rank (x .words) (y .session) (a .table) (x .left) (rowAt w p) (a .left) here-below)
+          (room-agrees rank (x .words) (y .session) (a .table) (x .left) (rowAt w p) (a .left) here-below
+          (present isWaiting refl (stateAt (y .session) (rowAt w p)) here-waits))
           (blocked-agrees rank (x .words) (y .session) (a .table) (rowAt w p) here-below)
           ∙ and-comm (room rank (y .session) (rowAt w p)) (not (blocked (y .session) (setsAt (y .session) (rowAt w p))))
 
@@ -300,7 +307,7 @@ module _ (rank : Ranking) (strict : Strict rank) (fixed : Fixed rank) (w : List 
         at-admits : At (suc p) (admitIn x (rowAt w p)) (admit y (rowAt w p))
         unfolding admitIn
         at-admits = record {
-          table = executes-tabled rank fixed (x .words) (y .session) (a .table) (rowAt w p) here-below here-waits;
+          table = executes-tabled rank stays (x .words) (y .session) (a .table) (rowAt w p) here-below here-waits;
           row = row-after;
           come = λ q h m. executes-row (x .words) (rowAt w p) q ∙ a .come q (le-of-lt h) m;
           left = omega (arith, a .left, admitted-counts (y .session) (rowAt w p) here-below here-waits);
@@ -382,6 +389,6 @@ module _ (rank : Ranking) (strict : Strict rank) (fixed : Fixed rank) (w : List 
         (listing-at (rowSize w) (le-refl (rowSize w)) .counted .kept))
 
 -- the scan over words that hold a session is the rules' scan of the session
-pub scan-holds : (rank : Ranking) → Strict rank → Fixed rank → (w list : List ℕ) (s : Session) → length list ≡ 64 → s .m ≤ 16 → Holds rank w s
+pub scan-holds : (rank : Ranking) → Strict rank → Stays rank → (w list : List ℕ) (s : Session) → length list ≡ 64 → s .m ≤ 16 → Holds rank w s
     → ScanAgrees rank w list s
-scan-holds rank strict fixed w list s size few held = all-places rank strict fixed w s few held list size
+scan-holds rank strict stays w list s size few held = all-places rank strict stays w s few held list size

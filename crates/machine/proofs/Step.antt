@@ -19,7 +19,7 @@ use Rattle.rules.specs.declared.Event.{Event}
 use Rattle.rules.specs.declared.Said.{Said}
 use Rattle.rules.specs.declared.Said.the-variants.{Ok, Run}
 use Rattle.rules.specs.declared.Answer.{Answer}
-use Rattle.rules.specs.Ranking.{Ranking, Strict}
+use Rattle.rules.specs.Ranking.{byRank, Strict, Stays}
 use Rattle.rules.specs.Tasks.{isAbsent, isPlain, isWaiting, isExecuting, waitOf, taskAt, stateAt, waiting, setsAt, setsOf, noTask, inState, withTask, stamped}
 use Rattle.rules.specs.Room.{room, ran}
 use Rattle.rules.specs.Contest.{blocked}
@@ -31,11 +31,12 @@ use Rattle.rules.proofs.Laws.Tasks.{task-replaced, task-other}
 use Rattle.rules.proofs.Laws.Alike.{at-or-other, raised-size}
 use Rattle.rules.proofs.Laws.InOrder.{scan-lists}
 use Rattle.rules.proofs.Moves.{raises, raised-below}
+use Rattle.rules.proofs.Ranking.{rank-strict-and-stays}
 use Rattle.rules.proofs.Events.{absent-is, plain-is, executing-is}
 use Rattle.machine.specs.Asked.{waitSaidIn}
 use Rattle.machine.specs.Events.{Outcome, refusedIn, stillIn, scanningIn, arrivedIn, arriveIn, releasedIn, runsIn, waitsIn, releaseAcceptedIn, releaseIn, committedIn, commitIn, finishedIn, finishIn, stepIn}
 use Rattle.machine.specs.Holds.{Holds}
-use Rattle.machine.specs.Theorem.{Fixed, Answers, StepHolds}
+use Rattle.machine.specs.Theorem.{Answers, StepHolds}
 use Rattle.machine.proofs.Laws.Choices.{both}
 use Rattle.machine.proofs.Numbers.{arrive-number, release-number, commit-number, finish-number}
 use Rattle.machine.proofs.Scan.{ScanAgrees, scan-holds}
@@ -57,8 +58,14 @@ raised-since true hadRun t = go (t .state)
     go (Waiting v) = (refl, refl)
     go Executing = (refl, refl)
 
-module _ (rank : Ranking) (strict : Strict rank) (fixed : Fixed rank) (w list : List ℕ) (s : Session) (e : Event) (size : length list ≡ 64)
-    (holds : Holds rank w s) where
+-- the ranking is strict, and stays while a job is present
+strict : Strict byRank
+strict = rank-strict-and-stays .0
+
+stays : Stays byRank
+stays = rank-strict-and-stays .1
+
+module _ (w list : List ℕ) (s : Session) (e : Event) (size : length list ≡ 64) (holds : Holds byRank w s) where
   abbrev tick : ℕ
   tick = e .tick
 
@@ -67,7 +74,7 @@ module _ (rank : Ranking) (strict : Strict rank) (fixed : Fixed rank) (w list : 
 
   -- what the words come to is what the rules come to
   abbrev Comes : Outcome → Answer → Type 0
-  Comes x a = Answers s e x a × Holds rank (x .words) (a .session)
+  Comes x a = Answers s e x a × Holds byRank (x .words) (a .session)
 
   -- ---- the three ways an event goes
 
@@ -77,7 +84,7 @@ module _ (rank : Ranking) (strict : Strict rank) (fixed : Fixed rank) (w list : 
       (record { said = refl; admitted = refl; list = λ j l. absurd (omega arith); since = λ j l. absurd (omega arith) }, holds)
 
   -- it is accepted with no scan
-  still-comes : (said : Said) (v : List ℕ) (s′ : Session) → Holds rank v s′ → Comes (stillIn said v list) (still said s′)
+  still-comes : (said : Said) (v : List ℕ) (s′ : Session) → Holds byRank v s′ → Comes (stillIn said v list) (still said s′)
   still-comes said v s′ after =
       (record { said = refl; admitted = refl; list = λ j l. absurd (omega arith); since = λ j l. absurd (omega arith) }, after)
 
@@ -106,23 +113,23 @@ module _ (rank : Ranking) (strict : Strict rank) (fixed : Fixed rank) (w list : 
   stands j l = omega (arith, holds .table .tasks, holds .table .few)
 
   -- it is accepted, and a scan follows
-  scanning-comes : (said said′ : Said) (v : List ℕ) (s′ : Session) → said ≡ said′ → s′ .m ≤ 16 → Since s′ → Holds rank v s′
-      → Comes (scanningIn said v list) (scanning rank said′ s′)
+  scanning-comes : (said said′ : Said) (v : List ℕ) (s′ : Session) → said ≡ said′ → s′ .m ≤ 16 → Since s′ → Holds byRank v s′
+      → Comes (scanningIn said v list) (scanning byRank said′ s′)
   scanning-comes said said′ v s′ same few since after = (
     record {
       said = same;
       admitted = agrees .admitted;
       list = agrees .listed;
       since = λ k l.
-          let listed : k < scan rank s′ .admitted .count = lt-of-lt-of-le l (le-of-eq (agrees .admitted)) in
+          let listed : k < scan byRank s′ .admitted .count = lt-of-lt-of-le l (le-of-eq (agrees .admitted)) in
           agrees .since k l
-          ∙ since (admissionAt (scan rank s′ .admitted) k .task) (scan-lists rank s′ few .below k listed) (scan-lists rank s′ few .waited k listed);
+          ∙ since (admissionAt (scan byRank s′ .admitted) k .task) (scan-lists byRank s′ few .below k listed) (scan-lists byRank s′ few .waited k listed);
     },
     agrees .holds,
   )
     where
-      agrees : ScanAgrees rank v list s′
-      agrees = scan-holds rank strict fixed v list s′ size few after
+      agrees : ScanAgrees byRank v list s′
+      agrees = scan-holds byRank strict stays v list s′ size few after
 
   -- it is accepted where its number, the same in both, is 0
   by-number : (k k′ : ℕ) (x : Outcome) (a : Answer) → k ≡ k′ → (k′ ≡ 0 → Comes x a)
@@ -133,19 +140,19 @@ module _ (rank : Ranking) (strict : Strict rank) (fixed : Fixed rank) (w list : 
 
   -- one whose number is 0
   arrive-accepts : arriveNumber s tick i ≡ 0
-      → Comes (stillIn Ok (arrivedIn w tick i) list) (still Ok (withTask (stamped s tick) i (arrived (taskAt s i) tick)))
+      → Comes (stillIn Ok (arrivedIn w tick i) list) (still Ok (withTask (stamped s tick) i (arrived (s .mode) (taskAt s i) tick)))
   unfolding arriveNumber
   arrive-accepts z =
       let late : ℕ = cond (early (taskAt s i .arrival) (taskAt s i .terms .period) tick) 5 0 in
       let ok = timely s tick i (cond (isAbsent (stateAt s i)) late 4) z in
-      still-comes Ok (arrivedIn w tick i) (withTask (stamped s tick) i (arrived (taskAt s i) tick))
-      (arrived-holds rank fixed w s holds tick i (ok .below)
+      still-comes Ok (arrivedIn w tick i) (withTask (stamped s tick) i (arrived (s .mode) (taskAt s i) tick))
+      (arrived-holds w s holds tick i (ok .below)
       (absent-is (stateAt s i) (must (isAbsent (stateAt s i)) late 4 (omega arith) (ok .rest-zero) .0)))
 
   -- any
   arrive-comes : Comes (arriveIn w list tick i) (arrive s tick i)
   unfolding arriveIn arrive
-  arrive-comes = by-number _ _ _ _ (arrive-number rank w s (holds .table) tick i) arrive-accepts
+  arrive-comes = by-number _ _ _ _ (arrive-number byRank w s (holds .table) tick i) arrive-accepts
 
   -- ---- finish
 
@@ -161,52 +168,52 @@ module _ (rank : Ranking) (strict : Strict rank) (fixed : Fixed rank) (w list : 
       (λ j l d. unchanged (taskAt s j) (taskAt finishes j) (task-other (stamped s tick) i j (finished (taskAt s i)) d))
 
   -- one whose number is 0
-  finish-accepts : finishNumber rank s tick i ≡ 0 → Comes (scanningIn Ok (finishedIn w tick i) list) (scanning rank Ok finishes)
+  finish-accepts : finishNumber byRank s tick i ≡ 0 → Comes (scanningIn Ok (finishedIn w tick i) list) (scanning byRank Ok finishes)
   unfolding finishNumber
   finish-accepts z =
-      let rest : ℕ = cond (isPlain (stateAt s i)) (cond (room rank s i) 0 6) 4 in
+      let rest : ℕ = cond (isPlain (stateAt s i)) (cond (room byRank s i) 0 6) 4 in
       let ok = timely s tick i rest z in
       scanning-comes Ok Ok (finishedIn w tick i) finishes refl (ok .m-high) (since-finish (ok .below))
-      (finished-holds rank fixed w s holds tick i (ok .below)
-      (plain-is (stateAt s i) (must (isPlain (stateAt s i)) (cond (room rank s i) 0 6) 4 (omega arith) (ok .rest-zero) .0)))
+      (finished-holds byRank w s holds tick i (ok .below)
+      (plain-is (stateAt s i) (must (isPlain (stateAt s i)) (cond (room byRank s i) 0 6) 4 (omega arith) (ok .rest-zero) .0)))
 
   -- any
-  finish-comes : Comes (finishIn w list tick i) (finish rank s tick i)
+  finish-comes : Comes (finishIn w list tick i) (finish byRank s tick i)
   unfolding finishIn finish
-  finish-comes = by-number _ _ _ _ (finish-number rank w s (holds .table) tick i) finish-accepts
+  finish-comes = by-number _ _ _ _ (finish-number byRank w s (holds .table) tick i) finish-accepts
 
   -- ---- commit
 
   -- the tasks before task i is put among them
   abbrev up-tasks : List Task
-  up-tasks = raised (ran rank s) s (setsAt s i) (s .n)
+  up-tasks = raised (ran byRank s) s (setsAt s i) (s .n)
 
   -- whoever waits then waited before, since the same tick
-  since-commit : i < s .n → Since (committed rank s tick i)
+  since-commit : i < s .n → Since (committed byRank s tick i)
   since-commit below =
-      since-all (committed rank s tick i)
+      since-all (committed byRank s tick i)
       (λ is. absurd (false≢true (sym (ap (λ (t : Task). isWaiting (t .state))
-      (getD-set-same up-tasks i (inState (taskAt s i) Plain) noTask (lt-of-lt-of-le (stands i below) (le-of-eq (sym (raised-size (ran rank s) s (setsAt s i) (s .n))))))) ∙ is)))
+      (getD-set-same up-tasks i (inState (taskAt s i) Plain) noTask (lt-of-lt-of-le (stands i below) (le-of-eq (sym (raised-size (ran byRank s) s (setsAt s i) (s .n))))))) ∙ is)))
       (λ j l d.
       subst (λ (t : Task). (isWaiting (t .state) ≡ waiting s j) × (waitOf (t .state) .release ≡ waitOf (stateAt s j) .release))
       (sym (getD-set-other up-tasks i j (inState (taskAt s i) Plain) noTask d
-      ∙ raised-below (ran rank s) s (setsAt s i) (s .n) j (omega (arith, holds .table .tasks, holds .table .few)) l))
-      (raised-since (raises s (setsAt s i) j) (ran rank s j) (taskAt s j)))
+      ∙ raised-below (ran byRank s) s (setsAt s i) (s .n) j (omega (arith, holds .table .tasks, holds .table .few)) l))
+      (raised-since (raises s (setsAt s i) j) (ran byRank s j) (taskAt s j)))
 
   -- one whose number is 0
-  commit-accepts : commitNumber s tick i ≡ 0 → Comes (scanningIn Ok (committedIn w tick i) list) (scanning rank Ok (committed rank s tick i))
+  commit-accepts : commitNumber s tick i ≡ 0 → Comes (scanningIn Ok (committedIn w tick i) list) (scanning byRank Ok (committed byRank s tick i))
   unfolding commitNumber
   commit-accepts z =
       let rest : ℕ = cond (isExecuting (stateAt s i)) 0 4 in
       let ok = timely s tick i rest z in
-      scanning-comes Ok Ok (committedIn w tick i) (committed rank s tick i) refl (ok .m-high) (since-commit (ok .below))
-      (committed-holds rank fixed w s holds tick i (ok .below)
+      scanning-comes Ok Ok (committedIn w tick i) (committed byRank s tick i) refl (ok .m-high) (since-commit (ok .below))
+      (committed-holds byRank stays w s holds tick i (ok .below)
       (executing-is (stateAt s i) (must (isExecuting (stateAt s i)) 0 4 (omega arith) (ok .rest-zero) .0)))
 
   -- any
-  commit-comes : Comes (commitIn w list tick i) (commit rank s tick i)
+  commit-comes : Comes (commitIn w list tick i) (commit byRank s tick i)
   unfolding commitIn commit
-  commit-comes = by-number _ _ _ _ (commit-number rank w s (holds .table) tick i) commit-accepts
+  commit-comes = by-number _ _ _ _ (commit-number byRank w s (holds .table) tick i) commit-accepts
 
   -- ---- release
 
@@ -231,42 +238,42 @@ module _ (rank : Ranking) (strict : Strict rank) (fixed : Fixed rank) (w list : 
     -- it waits
     waits-comes : blocked s (setsOf (e .reads) (e .writes)) ≡ true
         → Comes (scanningIn (waitSaidIn words i) (waitsIn words tick i) list)
-        (scanning rank (waitSaid rank s (setsOf (e .reads) (e .writes))) (into (begins tick)))
+        (scanning byRank (waitSaid byRank s (setsOf (e .reads) (e .writes))) (into (begins tick)))
     waits-comes b =
-        scanning-comes (waitSaidIn words i) (waitSaid rank s (setsOf (e .reads) (e .writes))) (waitsIn words tick i) (into (begins tick))
-        (released-said rank fixed w s holds tick i below was (e .reads) (e .writes) b) few since-release
-        (waits-holds rank fixed w s holds tick i below was (e .reads) (e .writes) strict)
+        scanning-comes (waitSaidIn words i) (waitSaid byRank s (setsOf (e .reads) (e .writes))) (waitsIn words tick i) (into (begins tick))
+        (released-said byRank stays w s holds tick i below was (e .reads) (e .writes) b) few since-release
+        (waits-holds byRank stays w s holds tick i below was (e .reads) (e .writes) strict)
 
     -- it runs
     runs-comes : Comes (stillIn Run (runsIn words i) list) (still Run (into Executing))
-    runs-comes = still-comes Run (runsIn words i) (into Executing) (runs-holds rank fixed w s holds tick i below was (e .reads) (e .writes))
+    runs-comes = still-comes Run (runsIn words i) (into Executing) (runs-holds byRank stays w s holds tick i below was (e .reads) (e .writes))
 
     -- a release that is accepted runs or waits in both
-    accepted-comes : Comes (releaseAcceptedIn w list tick i (e .reads) (e .writes)) (releaseAccepted rank s tick i (e .reads) (e .writes))
+    accepted-comes : Comes (releaseAcceptedIn w list tick i (e .reads) (e .writes)) (releaseAccepted byRank s tick i (e .reads) (e .writes))
     unfolding releaseAcceptedIn releaseAccepted
-    accepted-comes = both Comes (released-blocked rank fixed w s holds tick i below was (e .reads) (e .writes)) waits-comes (λ b. runs-comes)
+    accepted-comes = both Comes (released-blocked byRank stays w s holds tick i below was (e .reads) (e .writes)) waits-comes (λ b. runs-comes)
 
   -- one whose number is 0
-  release-accepts : releaseNumber rank s tick i ≡ 0
-      → Comes (releaseAcceptedIn w list tick i (e .reads) (e .writes)) (releaseAccepted rank s tick i (e .reads) (e .writes))
+  release-accepts : releaseNumber byRank s tick i ≡ 0
+      → Comes (releaseAcceptedIn w list tick i (e .reads) (e .writes)) (releaseAccepted byRank s tick i (e .reads) (e .writes))
   unfolding releaseNumber
   release-accepts z =
-      let used : ℕ = cond (room rank s i) (cond (ltb (taskAt s i .releases) (taskAt s i .terms .transactions)) 0 7) 6 in
+      let used : ℕ = cond (room byRank s i) (cond (ltb (taskAt s i .releases) (taskAt s i .terms .transactions)) 0 7) 6 in
       let ok = timely s tick i (cond (isPlain (stateAt s i)) used 4) z in
       accepted-comes (ok .below)
       (plain-is (stateAt s i) (must (isPlain (stateAt s i)) used 4 (omega arith) (ok .rest-zero) .0))
       (ok .m-high)
 
   -- any
-  release-comes : Comes (releaseIn w list tick i (e .reads) (e .writes)) (release rank s tick i (e .reads) (e .writes))
+  release-comes : Comes (releaseIn w list tick i (e .reads) (e .writes)) (release byRank s tick i (e .reads) (e .writes))
   unfolding releaseIn release
-  release-comes = by-number _ _ _ _ (release-number rank w s (holds .table) tick i) release-accepts
+  release-comes = by-number _ _ _ _ (release-number byRank w s (holds .table) tick i) release-accepts
 
 -- any event
 pub step-holds : StepHolds
 unfolding step stepIn
-step-holds rank strict fixed w list s e size holds =
-    elim (e .kind) as (λ k. Comes rank strict fixed w list s e size holds
+step-holds w list s e size holds =
+    elim (e .kind) as (λ k. Comes w list s e size holds
     (elim k [
       | Arrive ↦ arriveIn w list (e .tick) (e .task)
       | Release ↦ releaseIn w list (e .tick) (e .task) (e .reads) (e .writes)
@@ -275,12 +282,12 @@ step-holds rank strict fixed w list s e size holds =
     ])
     (elim k [
       | Arrive ↦ arrive s (e .tick) (e .task)
-      | Release ↦ release rank s (e .tick) (e .task) (e .reads) (e .writes)
-      | Commit ↦ commit rank s (e .tick) (e .task)
-      | Finish ↦ finish rank s (e .tick) (e .task)
+      | Release ↦ release byRank s (e .tick) (e .task) (e .reads) (e .writes)
+      | Commit ↦ commit byRank s (e .tick) (e .task)
+      | Finish ↦ finish byRank s (e .tick) (e .task)
     ])) [
-      | Arrive ↦ arrive-comes rank strict fixed w list s e size holds
-      | Release ↦ release-comes rank strict fixed w list s e size holds
-      | Commit ↦ commit-comes rank strict fixed w list s e size holds
-      | Finish ↦ finish-comes rank strict fixed w list s e size holds
+      | Arrive ↦ arrive-comes w list s e size holds
+      | Release ↦ release-comes w list s e size holds
+      | Commit ↦ commit-comes w list s e size holds
+      | Finish ↦ finish-comes w list s e size holds
     ]

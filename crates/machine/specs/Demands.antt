@@ -10,7 +10,7 @@ use Rattle.objects.specs.Below.{count}
 use Rattle.rules.specs.declared.Setup.{Setup}
 use Rattle.rules.specs.declared.Session.{Session}
 use Rattle.rules.specs.declared.Event.{Event}
-use Rattle.rules.specs.Ranking.{byPriority}
+use Rattle.rules.specs.Ranking.{byRank}
 use Rattle.rules.specs.Tasks.{waiting, executing}
 use Rattle.rules.specs.Setup.{setupNumber, fresh, start}
 use Rattle.rules.specs.Events.{step}
@@ -43,21 +43,21 @@ pub data Calls (from : List ℕ) : List ℕ → List Call → Type 0 where
 -- the promises
 pub record Promised (from s : Session) (w : List ℕ) (calls : List Call) : Type 0 where
   -- the words hold the session
-  pub holds : Holds byPriority w s
+  pub holds : Holds byRank w s
   -- demand 2: the same yes or refusal number, the same admissions in the same order, the same session after
   pub answers : (list : List ℕ) → length list ≡ 64 → (e : Event)
-      → Answers s e (stepIn w list e) (step byPriority s e) × Holds byPriority (stepIn w list e .words) (step byPriority s e .session)
+      → Answers s e (stepIn w list e) (step byRank s e) × Holds byRank (stepIn w list e .words) (step byRank s e .session)
   -- demand 3: once running, running until its own commit, with the same sets
-  pub running : (w′ : List ℕ) (more : List Call) → Calls w w′ more → (s′ : Session) × Holds byPriority w′ s′ × RunsOn s s′ more
+  pub running : (w′ : List ℕ) (more : List Call) → Calls w w′ more → (s′ : Session) × Holds byRank w′ s′ × RunsOn s s′ more
   -- one that waits clashes with a running one or has no processor
-  pub held : Held byPriority s
+  pub held : Held byRank s
   -- its clash count is the number of clashing transactions that committed while it waited; its retry count is the number of those just before which it ran, and so never
   -- more; and so are those of each admission
-  pub counts : WaitsCount byPriority from s calls
-  pub admissions : (e : Event) → AdmissionsCount byPriority from e (step byPriority s e) calls
+  pub counts : WaitsCount byRank from s calls
+  pub admissions : (e : Event) → AdmissionsCount byRank from e (step byRank s e) calls
   -- and the clash count is at most the sum for the wait's length; and so is that of each admission, for the wait that its call ends
   pub sum : Within s calls
-  pub within : (e : Event) → AdmissionsWithin e (step byPriority s e) calls
+  pub within : (e : Event) → AdmissionsWithin e (step byRank s e) calls
   -- a wait that ended has come to the tick of the call that admitted it
   pub ended : (i : ℕ) → i < s .n → waiting s i ≡ false → lasted i calls ≡ admittedAt i calls
   -- no two running transactions clash, and at most m run

@@ -12,8 +12,9 @@ use Rattle.rules.specs.declared.Said.the-variants.{Ok, Run, No}
 use Rattle.rules.specs.Events.{oneMore, empty}
 use Rattle.machine.specs.declared.Reply.{Reply}
 use Rattle.machine.specs.Bits.{withBit, withoutBit, ones}
-use Rattle.machine.specs.Places.{mOf, tickOf, acceptedOf, plainOf, waitingOf, executingOf, rowHeld, rowTask, numberPlace, periodAt, transactionsAt, arrivalAt, releasesAt, clashesAt, retriesAt, setsPut}
+use Rattle.machine.specs.Places.{mOf, tickOf, acceptedOf, plainOf, waitingOf, executingOf, rowHeld, rowTask, rankPlace, numberPlace, periodAt, transactionsAt, arrivalAt, releasesAt, clashesAt, retriesAt, setsPut}
 use Rattle.machine.specs.Asked.{knownIn, absentIn, leftIn, roomIn, clashIn, blockedIn, waitSaidIn}
+use Rattle.machine.specs.Ranks.{ranksMoved, rankGiven}
 use Rattle.machine.specs.Row.{rowPut, scanIn}
 
 -- ---- 'Events try 1 to 7 in that order': the first that is given
@@ -82,13 +83,20 @@ stampedIn w tick = set (set w 2 tick) 3 (acceptedOf w + 1)
 -- ---- arrive
 
 -- 'arrive: absent becomes plain, releases 0, last arrival set.'
-abbrev pub arrivedIn : List ℕ → ℕ → ℕ → List ℕ
-arrivedIn w tick i =
+abbrev pub turnsPlain : List ℕ → ℕ → ℕ → List ℕ
+turnsPlain w tick i =
     set (set (set (stampedIn w tick) 4 (withBit (plainOf w) i)) (numberPlace i 3) (tick + 1)) (numberPlace i 4) 0
+
+-- and its job gets its rank: who ranks above whom moves here, and nowhere else
+unfoldable pub arrivedIn : List ℕ → ℕ → ℕ → List ℕ
+unfolding withBit ranksMoved
+arrivedIn w tick i =
+    let v = turnsPlain w tick i in
+    ranksMoved (set v (rankPlace i) (rankGiven v tick i)) i
 
 -- an arrival, where no number refuses it
 unfoldable pub arriveIn : List ℕ → List ℕ → ℕ → ℕ → Outcome
-unfolding arriveNumberIn withBit
+unfolding arriveNumberIn arrivedIn
 arriveIn w list tick i =
     let number = arriveNumberIn w tick i in
     cond (eqb number 0) (stillIn Ok (arrivedIn w tick i) list) (refusedIn w list number)
@@ -184,9 +192,9 @@ commitIn w list tick i =
 
 -- ---- finish
 
--- 'finish: a plain task on a processor becomes absent'; its releases are '0 while absent'
+-- 'finish: a plain task on a processor becomes absent'; its releases and its rank are 0 while it is
 abbrev pub finishedIn : List ℕ → ℕ → ℕ → List ℕ
-finishedIn w tick i = set (set (stampedIn w tick) 4 (withoutBit (plainOf w) i)) (numberPlace i 4) 0
+finishedIn w tick i = set (set (set (stampedIn w tick) 4 (withoutBit (plainOf w) i)) (numberPlace i 4) 0) (rankPlace i) 0
 
 -- a finish, where no number refuses it: 'and a scan follows.'
 unfoldable pub finishIn : List ℕ → List ℕ → ℕ → ℕ → Outcome

@@ -1,10 +1,10 @@
 -- Words that a session is laid into, and a session that is read back from them.
 use Prim.Native.Nat.{ℕ, zero, suc, _+_, _-_, _*_, _%_, min}
 use mathlib.Core.List.{List, [], _∷_}
-use mathlib.Core.Bool.{Bool, cond, _&&_}
-use lib.Dec.{eqb, ltb}
+use mathlib.Core.Bool.{cond}
+use lib.Dec.{eqb}
 use lib.ListN.{getD, set}
-use Rattle.objects.specs.Objects.{bit, word}
+use Rattle.objects.specs.Objects.{bit}
 use Rattle.rules.specs.declared.Wait.{Wait}
 use Rattle.rules.specs.declared.State.{State}
 use Rattle.rules.specs.declared.State.the-variants.{Absent, Plain, Waiting, Executing}
@@ -14,14 +14,16 @@ use Rattle.rules.specs.declared.Task.{Task}
 use Rattle.rules.specs.declared.Session.{Session}
 use Rattle.rules.specs.Tasks.{taskAt, waitOf, withGroups}
 use Rattle.machine.specs.Bits.{withBit}
-use Rattle.machine.specs.Places.{mOf, nOf, tickOf, acceptedOf, plainOf, waitingOf, executingOf, numberPlace, priorityAt, periodAt, transactionsAt, arrivalAt, releasesAt, releaseAt, clashesAt, retriesAt, setPlace, setsPut}
+use Rattle.machine.specs.Places.{mOf, nOf, tickOf, acceptedOf, plainOf, waitingOf, executingOf, rankPlace, jobRankAt, modeOf, numberPlace, priorityAt, periodAt, transactionsAt, arrivalAt, releasesAt, releaseAt, clashesAt, retriesAt, setPlace, setsPut}
+use Rattle.machine.specs.Ranks.{ranksMoved}
 use Rattle.machine.specs.Row.{rowPut}
 
 -- ---- laid in
 
 -- the session's numbers, with nobody in any state and nobody in the row
 abbrev pub headPut : List ℕ → Session → List ℕ
-headPut w s = set (set (set (set (set (set (set (set w 0 (s .m)) 1 (s .n)) 2 (s .tick)) 3 (s .accepted)) 4 0) 5 0) 6 0) 7 0
+headPut w s =
+    set (set (set (set (set (set (set (set (set w 0 (s .m)) 1 (s .n)) 2 (s .tick)) 3 (s .accepted)) 4 0) 5 0) 6 0) 7 0) 1224 (s .mode)
 
 -- 0 where there was no arrival, and else one more than its tick
 abbrev pub arrivalCode : Arrival → ℕ
@@ -34,13 +36,16 @@ termsPut w i t =
     set
     (set
     (set
+    (set
     (set (set w (numberPlace i 0) (t .terms .priority)) (numberPlace i 1) (t .terms .period))
     (numberPlace i 2)
     (t .terms .transactions))
     (numberPlace i 3)
     (arrivalCode (t .arrival)))
     (numberPlace i 4)
-    (t .releases)
+    (t .releases))
+    (rankPlace i)
+    (t .rank)
 
 -- those of its wait
 abbrev pub waitPut : List ℕ → ℕ → Wait → List ℕ
@@ -62,19 +67,6 @@ numbersPut w s (suc k) =
     let v = waitPut (termsPut (numbersPut w s k) k (taskAt s k)) k (waitOf (taskAt s k .state)) in
     setsPut v k (fourOf (s .reads) k) (fourOf (s .writes) k)
 
--- a task's rank, by the priority that stands in the words
-abbrev pub rankIn : List ℕ → ℕ → ℕ
-rankIn w i = (65535 - priorityAt w i) * 64 + i
-
--- task j ranks above task i
-abbrev pub ranksAbove : List ℕ → ℕ → ℕ → Bool
-ranksAbove w i j = ltb (rankIn w j) (rankIn w i)
-
--- who ranks above task i: a bit for each task that does
-unfoldable pub aboveWord : List ℕ → ℕ → ℕ
-unfolding word
-aboveWord w i = word 64 (λ j. ltb j (nOf w) && ranksAbove w i j)
-
 -- task i in its state: its bit in that state's word, and where it waits its place in the row
 abbrev pub statePut : List ℕ → ℕ → State → List ℕ
 statePut w i Absent = w
@@ -84,11 +76,9 @@ statePut w i Executing = set w 6 (withBit (executingOf w) i)
 
 -- who ranks above each task below k, and its state
 unfoldable pub statesPut : List ℕ → Session → ℕ → List ℕ
-unfolding aboveWord withBit rowPut
+unfolding ranksMoved withBit rowPut
 statesPut w s zero = w
-statesPut w s (suc k) =
-    let v = statesPut w s k in
-    statePut (set v (72 + k) (aboveWord v k)) k (taskAt s k .state)
+statesPut w s (suc k) = statePut (ranksMoved (statesPut w s k) k) k (taskAt s k .state)
 
 -- how many tasks are laid in: a table has 64
 abbrev pub held : Session → ℕ
@@ -127,6 +117,7 @@ taskBack w i = record {
   state = stateBack w i;
   arrival = arrivalBack (arrivalAt w i);
   releases = releasesAt w i % 256;
+  rank = jobRankAt w i;
 }
 
 -- the tasks below k and their sets; the others are those of the session that is handed in
@@ -135,6 +126,7 @@ unfolding taskBack
 tasksBack w s zero = record {
   m = mOf w % 256;
   n = nOf w % 256;
+  mode = modeOf w % 256;
   tick = tickOf w % 4294967296;
   accepted = acceptedOf w % 4294967296;
   tasks = s .tasks;
@@ -146,6 +138,7 @@ tasksBack w s (suc k) =
     record {
       m = t .m;
       n = t .n;
+      mode = t .mode;
       tick = t .tick;
       accepted = t .accepted;
       tasks = set (t .tasks) k (taskBack w k);

@@ -56,9 +56,21 @@ rowTask w k = rowAt w k % 64
 
 -- ---- the ranks
 
--- who ranks above task i: a bit for each task that does
+-- who ranks above task i: a bit for each task that does; of no account of one that is absent, here and there
 abbrev pub aboveOf : List ℕ → ℕ → ℕ
 aboveOf w i = getD w (72 + i) 0
+
+-- where the rank of its present job stands
+abbrev pub rankPlace : ℕ → ℕ
+rankPlace i = 1160 + i
+
+-- what its present job ranks by, smaller is higher
+abbrev pub jobRankAt : List ℕ → ℕ → ℕ
+jobRankAt w i = getD w (rankPlace i) 0
+
+-- the mode, which says by what a job ranks
+abbrev pub modeOf : List ℕ → ℕ
+modeOf w = getD w 1224 0
 
 -- ---- the numbers of task i, eight beside each other: its terms, its last arrival, its releases, and its wait's numbers
 

@@ -6,14 +6,13 @@ use mathlib.Core.Bool.{cond}
 use lib.ListN.{length, getD}
 use Rattle.rules.specs.declared.Setup.{Setup}
 use Rattle.rules.specs.declared.Arrival.the-variants.{At}
-use Rattle.rules.specs.declared.Task.{Task}
 use Rattle.rules.specs.declared.Session.{Session}
 use Rattle.rules.specs.declared.Event.{Event}
 use Rattle.rules.specs.declared.Admission.{Admission}
 use Rattle.rules.specs.declared.Admissions.{Admissions}
 use Rattle.rules.specs.declared.Answer.{Answer}
 use Rattle.rules.specs.Answers.{number}
-use Rattle.rules.specs.Ranking.{Ranking, Strict, byPriority}
+use Rattle.rules.specs.Ranking.{Ranking, byRank}
 use Rattle.rules.specs.Tasks.{waitOf, taskAt, stateAt, waiting}
 use Rattle.rules.specs.Setup.{setupNumber, fresh, start}
 use Rattle.rules.specs.Listed.{admissionAt}
@@ -21,11 +20,7 @@ use Rattle.rules.specs.Scan.{noAdmission}
 use Rattle.rules.specs.Events.{step}
 use Rattle.machine.specs.Events.{Outcome, refusedIn, stepIn}
 use Rattle.machine.specs.Opened.{opened, readBack}
-use Rattle.machine.specs.Holds.{Holds}
-
--- A rank that stays while the words do: it goes by the terms alone, so that who ranks above whom is written once.
-abbrev pub Fixed : Ranking → Type 0
-Fixed rank = (t u : Task) (i : ℕ) → t .terms ≡ u .terms → rank t i ≡ rank u i
+use Rattle.machine.specs.Holds.{PeriodsFit, Holds}
 
 -- ---- an event
 
@@ -47,11 +42,11 @@ pub record Answers (s : Session) (e : Event) (x : Outcome) (a : Answer) : Type 0
       → let i = admissionAt (a .admitted) k .task in
       sinceAt (x .list) k ≡ cond (waiting s i) (waitOf (stateAt s i) .release) (e .tick)
 
--- each event on words that hold a session: the answer of the rules' step, and words that hold the session after it
+-- each event on words that hold a session: the answer of the rules' step, and words that hold the session after it. In both modes the ranking is that of the jobs' records.
 abbrev pub StepHolds : Type 0
 StepHolds =
-    (rank : Ranking) → Strict rank → Fixed rank → (w list : List ℕ) (s : Session) (e : Event) → length list ≡ 64 → Holds rank w s
-    → Answers s e (stepIn w list e) (step rank s e) × Holds rank (stepIn w list e .words) (step rank s e .session)
+    (w list : List ℕ) (s : Session) (e : Event) → length list ≡ 64 → Holds byRank w s
+    → Answers s e (stepIn w list e) (step byRank s e) × Holds byRank (stepIn w list e .words) (step byRank s e .session)
 
 -- 'A refused event changes no part of the session', and lists no admission: of any words at all, every number that was lent is as it was
 abbrev pub RefusedStays : Type 0
@@ -66,6 +61,7 @@ RefusedStays =
 pub record Fits (s : Session) : Type 0 where
   pub m : s .m < 2 ^ 8
   pub n : s .n < 2 ^ 8
+  pub mode : s .mode < 2 ^ 8
   pub tick : s .tick < 2 ^ 32
   pub accepted : s .accepted < 2 ^ 32
   pub priority : (i : ℕ) → taskAt s i .terms .priority < 2 ^ 16
@@ -85,7 +81,7 @@ pub record Sized (s : Session) : Type 0 where
 
 -- words into which a session is laid hold it
 abbrev pub OpenedHolds : Type 0
-OpenedHolds = (w : List ℕ) (s : Session) → length w ≡ 1280 → Sized s → s .n ≤ 64 → Holds byPriority (opened w s) s
+OpenedHolds = (w : List ℕ) (s : Session) → length w ≡ 1280 → Sized s → PeriodsFit s → s .n ≤ 64 → Holds byRank (opened w s) s
 
 -- past n two sessions are the same
 pub record Beside (s t : Session) : Type 0 where
@@ -135,7 +131,7 @@ StepLists = (rank : Ranking) (s : Session) (e : Event) → e .tick < 2 ^ 32 → 
 
 -- words into which the session of a good setup is laid hold it
 abbrev pub SetupHolds : Type 0
-SetupHolds = (w : List ℕ) (u : Setup) → length w ≡ 1280 → setupNumber u ≡ 0 → Holds byPriority (opened w (start u .session)) (fresh u)
+SetupHolds = (w : List ℕ) (u : Setup) → length w ≡ 1280 → setupNumber u ≡ 0 → Holds byRank (opened w (start u .session)) (fresh u)
 
 -- 'A refused setup makes no session; what comes back in its place has m and n 0 and every task absent, so every event and every sum asked of it gets 1': so has every event
 -- asked of words into which that is laid, and it leaves them as they are

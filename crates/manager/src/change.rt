@@ -3,9 +3,11 @@ ghost use mathlib.Core.Path.{_≡_};
 ghost use Prim.Native.Nat.{_<_};
 ghost use Rattle.rules.specs.Events.{oneMore};
 ghost use Rattle.machine.specs.Places.{acceptedOf, rowHeld, releasesAt};
+ghost use Rattle.machine.specs.Ranks.{rankGiven};
 ghost use Rattle.machine.specs.Events.{stampedIn, arrivedIn, releasedIn, runsIn, waitsIn, countsRaised, raisedIn, busyIn, committedIn, finishedIn};
 use machine::Words;
 use objects::Groups;
+use placing::put_in_rank;
 use placing::put_in_row;
 use placing::put_sets;
 use seek::clash_of;
@@ -22,7 +24,24 @@ fn stamp(words: &mut Words, tick: u32)
     words[3] = words[3] + 1;
 }
 
-// An absent task's job begins.
+// The rank of a job of task i that arrives at this tick.
+fn rank_given(words: &Words, tick: u32, i: usize) -> u64
+    requires { ⌜ i < 64 ⌝ }
+    ensures { λ rank. ⌜ rank ≡ rankGiven (now (words .entry)) tick i ⌝ }
+{
+    let base = 136 + i * 8;
+    if words[1224] == 1 {
+        return tick as u64 + words[base + 1] % 4294967296;
+    }
+    let priority = words[base];
+    if priority < 65535 {
+        65535 - priority
+    } else {
+        0
+    }
+}
+
+// An absent task's job begins, and gets its rank.
 pub(crate) fn begin(words: &mut Words, tick: u32, i: usize)
     requires { ⌜ (i < 64) × (acceptedOf (now words) < 1000000) ⌝ }
     ensures { λ _. ⌜ now (words .exit) ≡ arrivedIn (now (words .entry)) tick i ⌝ }
@@ -32,6 +51,8 @@ pub(crate) fn begin(words: &mut Words, tick: u32, i: usize)
     let base = 136 + i * 8;
     words[base + 3] = tick as u64 + 1;
     words[base + 4] = 0;
+    words[1160 + i] = rank_given(words, tick, i);
+    put_in_rank(words, i as u64);
 }
 
 // One more release of a plain task, with these sets.
@@ -132,4 +153,5 @@ pub(crate) fn end_job(words: &mut Words, tick: u32, i: usize)
     stamp(words, tick);
     words[4] = without_bit(words[4], i as u64);
     words[136 + i * 8 + 4] = 0;
+    words[1160 + i] = 0;
 }

@@ -14,7 +14,7 @@ use Rattle.rules.specs.declared.Answer.{Answer}
 use Rattle.rules.specs.declared.Started.{Started}
 use Rattle.rules.specs.declared.Summed.{Summed}
 use Rattle.rules.specs.Answers.{number}
-use Rattle.rules.specs.Ranking.{byPriority}
+use Rattle.rules.specs.Ranking.{byRank}
 use Rattle.rules.specs.Tasks.{waiting, executing}
 use Rattle.rules.specs.Setup.{start}
 use Rattle.rules.specs.Events.{arrive, release, commit, finish, step}
@@ -26,11 +26,11 @@ use Rattle.rules.specs.Demand3.{RunsOn, Held, WaitsCount, AdmissionsCount, Admi
 -- an answer to a call of one of the functions, with the event that it was asked for
 pub data Answered (s : Session) : Event → Answer → Type 0 where
   arrives : (tick task : ℕ) (answer : Answer) → answer ≡ arrive s tick task → Answered s (plainEvent Arrive tick task) answer
-  releases : (tick task : ℕ) (reads writes : List ℕ) (answer : Answer) → answer ≡ release byPriority s tick task reads writes
+  releases : (tick task : ℕ) (reads writes : List ℕ) (answer : Answer) → answer ≡ release byRank s tick task reads writes
       → Answered s (releaseOf tick task reads writes) answer
-  commits : (tick task : ℕ) (answer : Answer) → answer ≡ commit byPriority s tick task → Answered s (plainEvent Commit tick task) answer
-  finishes : (tick task : ℕ) (answer : Answer) → answer ≡ finish byPriority s tick task → Answered s (plainEvent Finish tick task) answer
-  steps : (e : Event) (answer : Answer) → answer ≡ step byPriority s e → Answered s e answer
+  commits : (tick task : ℕ) (answer : Answer) → answer ≡ commit byRank s tick task → Answered s (plainEvent Commit tick task) answer
+  finishes : (tick task : ℕ) (answer : Answer) → answer ≡ finish byRank s tick task → Answered s (plainEvent Finish tick task) answer
+  steps : (e : Event) (answer : Answer) → answer ≡ step byRank s e → Answered s e answer
 
 -- calls one after another, each on the session that the one before gave back; refused ones too
 pub data Calls (from : Session) : Session → List Call → Type 0 where
@@ -42,11 +42,11 @@ pub record Holds (from s : Session) (calls : List Call) : Type 0 where
   -- once running, running until its own commit, with the same sets
   pub running : (s′ : Session) (more : List Call) → Calls s s′ more → RunsOn s s′ more
   -- one that waits clashes with a running one or has no processor
-  pub held : Held byPriority s
+  pub held : Held byRank s
   -- its clash count is the number of clashing transactions that committed while it waited; its retry count is the number of those just before which it ran, and so never
   -- more; and so are those of each admission
-  pub counts : WaitsCount byPriority from s calls
-  pub admissions : (e : Event) (answer : Answer) → Answered s e answer → AdmissionsCount byPriority from e answer calls
+  pub counts : WaitsCount byRank from s calls
+  pub admissions : (e : Event) (answer : Answer) → Answered s e answer → AdmissionsCount byRank from e answer calls
   -- and the clash count is at most the sum that the function answers for the wait's length
   pub sum : (i : ℕ) → i < s .n → (answer : Summed) → answer ≡ summed s i (waitLength i calls) → (answer .number ≡ 0) × (passed i calls ≤ answer .sum)
   -- and so is that of each admission, for the wait that its call ends

@@ -1,6 +1,6 @@
 // The calls by value, made of the machine: a session is laid into words, one event changes them, and the session is read back.
 ghost use mathlib.Core.Path.{_≡_};
-ghost use Rattle.rules.specs.Ranking.{byPriority};
+ghost use Rattle.rules.specs.Ranking.{byRank};
 ghost use Rattle.rules.specs.Events.{refused, arrive, release, commit, finish, step};
 ghost use Rattle.rules.specs.Scan.{none};
 ghost use Rattle.rules.specs.Cases.{plainEvent};
@@ -65,7 +65,7 @@ fn plain_event(kind: Kind, tick: u32, task: u8) -> Event
 
 // Any event. No machine holds more than 64 tasks; a session that says that it has more gets 1, and comes back as it was.
 pub fn step(s: Session, e: Event) -> Answer
-    ensures { λ answer. ⌜ answer ≡ step byPriority s e ⌝ }
+    ensures { λ answer. ⌜ answer ≡ step byRank s e ⌝ }
 {
     if 64 < s.n {
         return Answer {
@@ -97,7 +97,7 @@ pub fn arrive(s: Session, tick: u32, task: u8) -> Answer
 
 // A plain task on a processor releases a transaction with these sets: it runs where it clashes with no executing one, and else it waits, and a scan follows.
 pub fn release(s: Session, tick: u32, task: u8, reads: Groups, writes: Groups) -> Answer
-    ensures { λ answer. ⌜ answer ≡ release byPriority s tick task reads writes ⌝ }
+    ensures { λ answer. ⌜ answer ≡ release byRank s tick task reads writes ⌝ }
 {
     let e = Event {
         kind: Kind::Release,
@@ -111,14 +111,14 @@ pub fn release(s: Session, tick: u32, task: u8, reads: Groups, writes: Groups) -
 
 // An executing task's transaction commits: first the counts of those that it clashes with rise, then a scan follows.
 pub fn commit(s: Session, tick: u32, task: u8) -> Answer
-    ensures { λ answer. ⌜ answer ≡ commit byPriority s tick task ⌝ }
+    ensures { λ answer. ⌜ answer ≡ commit byRank s tick task ⌝ }
 {
     step(s, plain_event(Kind::Commit, tick, task))
 }
 
 // A plain task on a processor is absent, and a scan follows.
 pub fn finish(s: Session, tick: u32, task: u8) -> Answer
-    ensures { λ answer. ⌜ answer ≡ finish byPriority s tick task ⌝ }
+    ensures { λ answer. ⌜ answer ≡ finish byRank s tick task ⌝ }
 {
     step(s, plain_event(Kind::Finish, tick, task))
 }

@@ -1,86 +1,14 @@
--- A session laid into words and read back, as the loops that do it go: who ranks above a task, the numbers and the states of the first tasks, and the first tasks read back.
-use Prim.Native.Nat.{ℕ, zero, suc, _+_, _%_, _≤_, _<_, min}
-use mathlib.Core.Path.{_≡_, refl, sym, ap, _∙_}
+-- A session laid into words and read back, as the loops that do it go: the numbers and the states of the first tasks, and the first tasks read back.
+use Prim.Native.Nat.{ℕ, zero, suc, _+_, _%_, min}
+use mathlib.Core.Path.{_≡_, refl, sym, _∙_}
 use mathlib.Core.List.{List}
-use mathlib.Core.Bool.{Bool, true, false, _&&_, _||_, and-false, or-false}
 use native.Mathlib.Numerals.{add-one}
-use native.Mathlib.Omega.{arith}
-use lib.Dec.{eqb, ltb}
 use lib.ListN.{set}
-use borrow.Author.Tests.{eqb-true, eqb-false, lt-ltb, le-ltb, ltb-true}
-use Rattle.objects.specs.Objects.{bit, word}
-use Rattle.objects.proofs.Laws.Below.{or-right, bool-ext}
-use Rattle.objects.proofs.Laws.Bits.{bit-zero, bit-word, word-ext, word-bits}
 use Rattle.rules.specs.declared.Session.{Session}
 use Rattle.rules.specs.Tasks.{taskAt, waitOf, withGroups}
-use Rattle.machine.specs.Bits.{withBit}
-use Rattle.machine.specs.Places.{mOf, nOf, tickOf, acceptedOf, setPlace, setsPut}
-use Rattle.machine.specs.Opened.{headPut, termsPut, waitPut, fourOf, numbersPut, rankIn, aboveWord, statePut, statesPut, held, opened, taskBack, fourAt, tasksBack, readBack}
-
--- ---- who ranks above a task
-
--- of the tasks below k, those that rank above task i
-abbrev pub aboveBelow : List ℕ → ℕ → ℕ → ℕ
-aboveBelow w i k = word 64 (λ j. ltb j k && ltb (rankIn w j) (rankIn w i))
-
-with-is : (x i : ℕ) → withBit x i ≡ word 64 (λ j. bit x j || eqb j i)
-unfolding withBit
-with-is x i = refl
-
-above-is : (w : List ℕ) (i : ℕ) → aboveWord w i ≡ aboveBelow w i (nOf w)
-unfolding aboveWord
-above-is w i = refl
-
--- none is below 0
-pub above-none : (w : List ℕ) (i : ℕ) → 0 ≡ aboveBelow w i 0
-above-none w i =
-    sym (word-bits 64 0 (omega arith)) ∙ word-ext 64 (bit 0) (λ j. ltb j 0 && ltb (rankIn w j) (rankIn w i)) (λ j l. bit-zero j ∙ sym (rw (le-ltb j 0 (omega arith))))
-
--- a test that only the task k itself tells apart
-below-next : (j k : ℕ) → eqb j k ≡ false → ltb j (k + 1) ≡ ltb j k
-below-next j k e =
-    bool-ext (ltb j (k + 1)) (ltb j k) (λ t. lt-ltb j k (let d = eqb-false j k e in omega (arith, ltb-true j (k + 1) t))) (λ t. lt-ltb j (k + 1) (omega (arith, ltb-true j k t)))
-
--- a bit of the next word, where task k has it
-more-has : (j k : ℕ) (r b : Bool) → eqb j k ≡ b → (b ≡ true → r ≡ true) → ((ltb j k && r) || eqb j k) ≡ (ltb j (k + 1) && r)
-more-has j k r true e t = rw (e, t refl, lt-ltb j (k + 1) (omega (arith, eqb-true j k e))) (or-right (ltb j k && true) true refl)
-more-has j k r false e t = rw (e, below-next j k e) (or-false (ltb j k && r))
-
--- where it has not
-more-lacks : (j k : ℕ) (r b : Bool) → eqb j k ≡ b → (b ≡ true → r ≡ false) → (ltb j k && r) ≡ (ltb j (k + 1) && r)
-more-lacks j k r true e t = rw (t refl) (and-false (ltb j k) ∙ sym (and-false (ltb j (k + 1))))
-more-lacks j k r false e t = rw (below-next j k e)
-
-module _ (w : List ℕ) (i k x : ℕ) (e : x ≡ aboveBelow w i k) where
-  -- task j ranks above it
-  abbrev ranks : ℕ → Bool
-  ranks j = ltb (rankIn w j) (rankIn w i)
-
-  -- the next task ranks above it
-  pub above-more : rankIn w k < rankIn w i → withBit x k ≡ aboveBelow w i (k + 1)
-  above-more h =
-      with-is x k
-      ∙ word-ext 64 (λ j. bit x j || eqb j k) (λ j. ltb j (k + 1) && ranks j)
-      (λ j l.
-      ap (λ (b : Bool). b || eqb j k) (ap (λ (y : ℕ). bit y j) e ∙ bit-word 64 (λ j. ltb j k && ranks j) j l)
-      ∙ more-has j k (ranks j) (eqb j k) refl (λ t. rw (eqb-true j k t) (lt-ltb (rankIn w k) (rankIn w i) h)))
-
-  -- it does not
-  pub above-same : rankIn w i ≤ rankIn w k → x ≡ aboveBelow w i (k + 1)
-  above-same h =
-      e
-      ∙ word-ext 64 (λ j. ltb j k && ranks j) (λ j. ltb j (k + 1) && ranks j)
-      (λ j l. more-lacks j k (ranks j) (eqb j k) refl (λ t. rw (eqb-true j k t) (le-ltb (rankIn w k) (rankIn w i) h)))
-
-  -- all below n, of which there are at most 64
-  pub above-all : k ≡ min (nOf w) 64 → x ≡ aboveWord w i
-  above-all f =
-      e
-      ∙ word-ext 64 (λ j. ltb j k && ranks j) (λ j. ltb j (nOf w) && ranks j)
-      (λ j l.
-      ap (λ (b : Bool). b && ranks j)
-      (bool-ext (ltb j k) (ltb j (nOf w)) (λ t. lt-ltb j (nOf w) (omega (arith, ltb-true j k t, f))) (λ t. lt-ltb j k (omega (arith, ltb-true j (nOf w) t, f)))))
-      ∙ sym (above-is w i)
+use Rattle.machine.specs.Places.{mOf, nOf, tickOf, acceptedOf, modeOf, setPlace, setsPut}
+use Rattle.machine.specs.Ranks.{ranksMoved}
+use Rattle.machine.specs.Opened.{headPut, termsPut, waitPut, fourOf, numbersPut, statePut, statesPut, held, opened, taskBack, fourAt, tasksBack, readBack}
 
 -- ---- laid in
 
@@ -107,7 +35,7 @@ module _ (w : List ℕ) (s : Session) where
 
   -- who ranks above task k, and its state, put into words
   abbrev statedOne : List ℕ → ℕ → List ℕ
-  statedOne v k = statePut (set v (72 + k) (aboveWord v k)) k (taskAt s k .state)
+  statedOne v k = statePut (ranksMoved v k) k (taskAt s k .state)
 
   states-next : (k : ℕ) → statesPut w s (suc k) ≡ statedOne (statesPut w s k) k
   unfolding statesPut
@@ -132,6 +60,7 @@ abbrev pub numbersBack : List ℕ → Session → Session
 numbersBack w s = record {
   m = mOf w % 256;
   n = nOf w % 256;
+  mode = modeOf w % 256;
   tick = tickOf w % 4294967296;
   accepted = acceptedOf w % 4294967296;
   tasks = s .tasks;
@@ -149,6 +78,7 @@ module _ (w : List ℕ) (s : Session) where
   backOne t k = record {
     m = t .m;
     n = t .n;
+    mode = t .mode;
     tick = t .tick;
     accepted = t .accepted;
     tasks = set (t .tasks) k (taskBack w k);

@@ -3,7 +3,7 @@
 use Prim.Native.Nat.{ℕ, zero, suc, _+_, _-_, _*_, _/_, _%_, _≤_, _<_}
 use mathlib.Core.Path.{_≡_, refl, sym, ap, ap₂, _∙_}
 use mathlib.Core.List.{List}
-use mathlib.Core.Bool.{Bool, true, false, not, _&&_, _||_, or-false}
+use mathlib.Core.Bool.{Bool, true, false, not, _&&_, _||_, or-false, false≢true}
 use native.Mathlib.Nat.{add-zero, add-suc, add-sub-of-le, lt-of-lt-of-le}
 use native.Mathlib.Omega.{arith}
 use lib.Dec.{eqb, ltb}
@@ -22,6 +22,7 @@ use Rattle.rules.specs.Tasks.{isAbsent, isPlain, isWaiting, isExecuting, stateA
 use Rattle.rules.specs.Room.{rankAt, plainAbove, room}
 use Rattle.rules.specs.Contest.{clashing, blocked, contestedOn, lowestContested, contestedCount, highestClashing}
 use Rattle.rules.specs.Events.{waitSaid}
+use Rattle.rules.specs.Demand3.{presentAt}
 use Rattle.rules.proofs.Laws.Foremost.{foremost-found}
 use Rattle.rules.proofs.Laws.Rows.{Agree, clash-is, on-agree, clash-agree}
 use Rattle.machine.specs.Bits.{ones, common}
@@ -29,6 +30,7 @@ use Rattle.machine.specs.Places.{plainOf, waitingOf, executingOf, aboveO
 use Rattle.machine.specs.Asked.{absentIn, leftIn, roomIn, clashIn, clashingIn, blockedIn, contestedIn, highestBelow, highestIn, contestedGroups, waitSaidIn}
 use Rattle.machine.specs.Events.{busyIn}
 use Rattle.machine.specs.Holds.{within, Tabled}
+use Rattle.machine.proofs.Laws.Choices.{asked-where}
 
 -- ---- what nobody from n on has is asked below n alone
 
@@ -98,6 +100,13 @@ absent-not Plain = refl
 absent-not (Waiting v) = refl
 absent-not Executing = refl
 
+-- and one in a state in which no absent task is, is present
+pub present : (f : State → Bool) → f Absent ≡ false → (state : State) → f state ≡ true → not (isAbsent state) ≡ true
+present f never Absent e = absurd (false≢true (sym never ∙ e))
+present f never Plain e = refl
+present f never (Waiting v) e = refl
+present f never Executing e = refl
+
 -- a wait is said alike where its three numbers are
 same-said : (object object′ contested contested′ whom whom′ : ℕ) → object ≡ object′ → contested ≡ contested′ → whom ≡ whom′
     → Wait object contested whom ≡ Wait object′ contested′ whom′
@@ -166,19 +175,21 @@ module _ (rank : Ranking) (w : List ℕ) (s : Session) (t : Tabled rank w s) whe
 
   -- ---- room
 
-  -- how many plain tasks rank above task i
-  pub above-agrees : (i : ℕ) → i < s .n → common (plainOf w) (aboveOf w i) ≡ count (s .n) (plainAbove rank s i)
+  -- how many plain tasks rank above task i, which is present
+  pub above-agrees : (i : ℕ) → i < s .n → presentAt s i ≡ true → common (plainOf w) (aboveOf w i) ≡ count (s .n) (plainAbove rank s i)
   unfolding common
-  above-agrees i l =
+  above-agrees i l here =
       count-within 64 (s .n) (λ j. bit (plainOf w) j && bit (aboveOf w i) j) (plainAbove rank s i) (t .few)
-      (λ j h. ap₂ (λ (a b : Bool). a && b) (plain-bit j h) (t .above i j l h))
+      (λ j h.
+      ap (λ (a : Bool). a && bit (aboveOf w i) j) (plain-bit j h)
+      ∙ asked-where (plain s j) (bit (aboveOf w i) j) (ltb (rankAt rank s j) (rankAt rank s i)) (λ e. t .above i j l h here (present isPlain refl (stateAt s j) e)))
       (λ j from h. ap (λ (b : Bool). b && bit (aboveOf w i) j) (plain-past j from h))
 
   -- with as many left as m has more than execute
-  pub room-agrees : (left i : ℕ) → left ≡ s .m - count (s .n) (executing s) → i < s .n → roomIn w left i ≡ room rank s i
+  pub room-agrees : (left i : ℕ) → left ≡ s .m - count (s .n) (executing s) → i < s .n → presentAt s i ≡ true → roomIn w left i ≡ room rank s i
   unfolding roomIn room
-  room-agrees left i e l =
-      ap₂ ltb (above-agrees i l) e ∙ less-than-left (count (s .n) (plainAbove rank s i)) (count (s .n) (executing s)) (s .m)
+  room-agrees left i e l here =
+      ap₂ ltb (above-agrees i l here) e ∙ less-than-left (count (s .n) (plainAbove rank s i)) (count (s .n) (executing s)) (s .m)
 
   -- ---- clashes
 
@@ -244,14 +255,20 @@ module _ (rank : Ranking) (w : List ℕ) (s : Session) (t : Tabled rank w s) whe
     highest-below : (k : ℕ) → k ≤ s .n → highestBelow w i k ≡ foremost k f (rankAt rank s)
     unfolding highestBelow foremost f
     highest-below zero h = refl
-    highest-below (suc k) h = rw (highest-below k (omega arith), clashing-agrees k h, go (eqb m 64) refl)
+    highest-below (suc k) h = rw (highest-below k (omega arith), clashing-agrees k h, asked-where (f k) _ _ (λ c. go c (eqb m 64) refl))
       where
         m : ℕ
         m = foremost k f (rankAt rank s)
 
-        go : (b : Bool) → eqb m 64 ≡ b → (b || bit (aboveOf w m) k) ≡ (b || ltb (rankAt rank s k) (rankAt rank s m))
-        go true e = refl
-        go false e = t .above m k (lt-of-lt-of-le (foremost-found k f (rankAt rank s) (eqb-false m 64 e) .0) (omega arith)) h
+        -- one that executes is present
+        here : (j : ℕ) → f j ≡ true → presentAt s j ≡ true
+        here j c = present isExecuting refl (stateAt s j) (and-left (executing s j) (clash (setsAt s i) (setsAt s j)) c)
+
+        go : f k ≡ true → (b : Bool) → eqb m 64 ≡ b → (b || bit (aboveOf w m) k) ≡ (b || ltb (rankAt rank s k) (rankAt rank s m))
+        go c true e = refl
+        go c false e =
+            let found = foremost-found k f (rankAt rank s) (eqb-false m 64 e) in
+            t .above m k (lt-of-lt-of-le (found .0) (omega arith)) h (here m (found .1)) (here k c)
 
     -- from n on there is none
     highest-past : (d : ℕ) → s .n + d ≤ 64 → highestBelow w i (s .n + d) ≡ highestBelow w i (s .n)

@@ -1,8 +1,8 @@
 -- What the rules ask of a transaction that releases goes by those that execute alone: two sessions in which the same tasks execute, with the same sets and ranks, answer
 -- alike.
 use Prim.Native.Nat.{ℕ, _<_}
-use mathlib.Core.Path.{_≡_, refl, ap, _∙_}
-use mathlib.Core.Bool.{Bool, true, false, _&&_}
+use mathlib.Core.Path.{_≡_, ap, _∙_}
+use mathlib.Core.Bool.{Bool, true, _&&_}
 use Rattle.objects.specs.Below.{any}
 use Rattle.objects.specs.Objects.{Sets, clash, clashOn}
 use Rattle.objects.proofs.Laws.Below.{any-ext, count-ext, least-ext}
@@ -14,27 +14,23 @@ use Rattle.rules.specs.Contest.{clashing, blocked, contestedOn, lowestContested
 use Rattle.rules.specs.Events.{waitSaid}
 use Rattle.rules.proofs.Laws.Rows.{Agree, on-agree, clash-agree}
 use Rattle.rules.proofs.Laws.Foremost.{foremost-ext}
+use Rattle.machine.proofs.Laws.Choices.{asked-where}
 
 module _ (rank : Ranking) (s s′ : Session) (x x′ : Sets) (n-same : s′ .n ≡ s .n) (sets : Agree x′ x)
     (ranked : (j : ℕ) → rankAt rank s′ j ≡ rankAt rank s j) (executes : (j : ℕ) → executing s′ j ≡ executing s j)
     (others : (j : ℕ) → executing s j ≡ true → Agree (setsAt s′ j) (setsAt s j)) where
-  -- a question of the sets of a task, where it executes
-  where-executes : (b : Bool) (p q : Bool) → (b ≡ true → p ≡ q) → (b && p) ≡ (b && q)
-  where-executes true p q same = same refl
-  where-executes false p q same = refl
-
   -- who clashes with it
   clashing-same : (j : ℕ) → clashing s′ x′ j ≡ clashing s x j
   clashing-same j =
       ap (λ (b : Bool). b && clash x′ (setsAt s′ j)) (executes j)
-      ∙ where-executes (executing s j) (clash x′ (setsAt s′ j)) (clash x (setsAt s j))
+      ∙ asked-where (executing s j) (clash x′ (setsAt s′ j)) (clash x (setsAt s j))
       (λ e. clash-agree x′ (setsAt s′ j) x (setsAt s j) sets (others j e))
 
   -- and on which object
   on-same : (b : ℕ) → b < 256 → (j : ℕ) → (executing s′ j && clashOn x′ (setsAt s′ j) b) ≡ (executing s j && clashOn x (setsAt s j) b)
   on-same b l j =
       ap (λ (t : Bool). t && clashOn x′ (setsAt s′ j) b) (executes j)
-      ∙ where-executes (executing s j) (clashOn x′ (setsAt s′ j) b) (clashOn x (setsAt s j) b)
+      ∙ asked-where (executing s j) (clashOn x′ (setsAt s′ j) b) (clashOn x (setsAt s j) b)
       (λ e. on-agree x′ (setsAt s′ j) x (setsAt s j) sets (others j e) b l)
 
   -- whether it is blocked

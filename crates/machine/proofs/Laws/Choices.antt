@@ -1,8 +1,8 @@
--- What holds of both sides of a test holds of what the test chooses; what holds of the four events holds of any.
+-- What holds of both sides of a test holds of what the test chooses; what is asked after a test is asked where it holds; what holds of the four events holds of any.
 use Prim.Native.Nat.{ℕ}
 use mathlib.Core.Path.{_≡_, refl}
 use mathlib.Core.List.{List}
-use mathlib.Core.Bool.{Bool, true, false, cond}
+use mathlib.Core.Bool.{Bool, true, false, cond, _&&_}
 use Rattle.rules.specs.declared.Kind.the-variants.{Arrive, Release, Commit, Finish}
 use Rattle.rules.specs.declared.Event.{Event}
 use Rattle.machine.specs.Events.{Outcome, arriveIn, releaseIn, commitIn, finishIn, stepIn}
@@ -17,6 +17,11 @@ pub both : {A B : Type 0} (P : A → B → Type 0) {a b : Bool} {x x′ : A} {y 
     → P (cond a x x′) (cond b y y′)
 both P {b = true} same first second = rw same (first refl)
 both P {b = false} same first second = rw same (second refl)
+
+-- two questions after one test, which agree where it holds
+pub asked-where : (b p q : Bool) → (b ≡ true → p ≡ q) → (b && p) ≡ (b && q)
+asked-where true p q same = same refl
+asked-where false p q same = refl
 
 -- an event is one of four
 pub event-cases : (P : Outcome → Type 0) (w list : List ℕ) (e : Event) → P (arriveIn w list (e .tick) (e .task))

@@ -19,12 +19,12 @@ use Rattle.rules.specs.Tasks.{noTask, taskAt, setsAt, setsOf, withGroups, withT
 use Rattle.rules.specs.Demand3.{SameSets}
 use Rattle.rules.proofs.Laws.Rows.{groups-length, groups-other, groups-same}
 use Rattle.machine.specs.Bits.{withBit, withoutBit}
-use Rattle.machine.specs.Places.{acceptedOf, numberPlace, setPlace, setsIn, setsPut}
+use Rattle.machine.specs.Places.{acceptedOf, rankPlace, numberPlace, setPlace, setsIn, setsPut}
 use Rattle.machine.specs.Events.{stampedIn}
 use Rattle.machine.specs.Holds.{Tabled}
 use Rattle.machine.proofs.Laws.Bits.{with-bit, without-bit}
 use Rattle.machine.proofs.Laws.Places.{kept, sets-kept, sets-own}
-use Rattle.machine.proofs.Laws.Changed.{numbers-stay, sets-stay, sets-meet, sets-back, Leaves, Moved}
+use Rattle.machine.proofs.Laws.Changed.{numbers-stay, sets-stay, sets-meet, sets-back, ranks-stay, Leaves, Moved}
 
 -- ---- what an edit leaves
 
@@ -45,6 +45,10 @@ leaves-stamped i w tick =
 -- a number of the task
 pub leaves-number : (i : ℕ) (w v : List ℕ) (f x : ℕ) → f < 8 → Leaves i w v → Leaves i w (set v (numberPlace i f) x)
 leaves-number i w v f x l before q o = kept v (numberPlace i f) q x (o .numbers f l) ∙ before q o
+
+-- its rank
+pub leaves-rank : (i : ℕ) (w v : List ℕ) (x : ℕ) → Leaves i w v → Leaves i w (set v (rankPlace i) x)
+leaves-rank i w v x before q o = kept v (rankPlace i) q x (o .rank) ∙ before q o
 
 -- its sets
 pub leaves-sets : (i : ℕ) (w v reads writes : List ℕ) → Leaves i w v → Leaves i w (setsPut v i reads writes)
@@ -82,13 +86,14 @@ module _ (rank : Ranking) (w : List ℕ) (s : Session) (table : Tabled rank w s)
   -- another task, at this tick and with so many events, and its sets as they were
   pub moved-task : (accepted : ℕ)
       → Moved s i t
-      (record { m = s .m; n = s .n; tick = tick; accepted = accepted; tasks = set (s .tasks) i t; reads = s .reads; writes = s .writes })
+      (record { m = s .m; n = s .n; mode = s .mode; tick = tick; accepted = accepted; tasks = set (s .tasks) i t; reads = s .reads; writes = s .writes })
   moved-task accepted = record {
     tasks = length-set (s .tasks) i t ∙ table .tasks;
     reads = table .reads;
     writes = table .writes;
     m = refl;
     n = refl;
+    mode = refl;
     here = getD-set-same (s .tasks) i t noTask (omega (arith, table .tasks));
     others = λ j d. getD-set-other (s .tasks) i j t noTask d;
     sets = λ j d g l. (refl, refl);
@@ -102,6 +107,7 @@ module _ (rank : Ranking) (w : List ℕ) (s : Session) (table : Tabled rank w s)
     writes = groups-length (s .writes) i writes ∙ table .writes;
     m = refl;
     n = refl;
+    mode = refl;
     here = getD-set-same (s .tasks) i t noTask (omega (arith, table .tasks));
     others = λ j d. getD-set-other (s .tasks) i j t noTask d;
     sets = λ j d g l. (groups-other (s .reads) i reads j g d l, groups-other (s .writes) i writes j g d l);
@@ -137,6 +143,7 @@ moved-again s tick i t u reads writes moved inside = record {
   writes = moved .writes;
   m = refl;
   n = refl;
+  mode = refl;
   here = getD-set-same (s .tasks) i u noTask inside;
   others = λ j d. getD-set-other (s .tasks) i j u noTask d ∙ sym (getD-set-other (s .tasks) i j t noTask d);
   sets = λ j d g l. (refl, refl);
@@ -155,13 +162,16 @@ table-stays rank w w′ s size same table = record {
   few = table .few;
   m = same 0 (inl (omega arith)) ∙ table .m;
   n = same 1 (inl (omega arith)) ∙ table .n;
+  mode = same 1224 (inr (omega arith)) ∙ table .mode;
   tick = same 2 (inl (omega arith)) ∙ table .tick;
   accepted = same 3 (inl (omega arith)) ∙ table .accepted;
   plains = λ j l. ap (λ (x : ℕ). bit x j) (same 4 (inl (omega arith))) ∙ table .plains j l;
   waits = λ j l. ap (λ (x : ℕ). bit x j) (same 5 (inl (omega arith))) ∙ table .waits j l;
   executes = λ j l. ap (λ (x : ℕ). bit x j) (same 6 (inl (omega arith))) ∙ table .executes j l;
-  above = λ i j li lj. ap (λ (x : ℕ). bit x j) (same (72 + i) (inr (omega arith))) ∙ table .above i j li lj;
-  numbers = λ i l. numbers-stay w w′ i (taskAt s i) (λ f m. same (numberPlace i f) (inr (omega arith))) (table .numbers i l);
+  above = ranks-stay rank w w′ s s (table .few) refl (λ j l. same (72 + j) (inr (omega arith))) (λ j here. (here, refl)) (table .above);
+  numbers = λ i l.
+      numbers-stay w w′ i (taskAt s i) (λ f m. same (numberPlace i f) (inr (omega arith))) (same (rankPlace i) (inr (omega arith))) (table .numbers i l);
   sets = λ i l.
       sets-meet (setsIn w′ i) (setsIn w i) (setsAt s i) (sets-stay w w′ i (λ f m. same (setPlace i f) (inr (omega arith)))) (table .sets i l);
+  periods = table .periods;
 }

@@ -48,7 +48,7 @@ pub record Standing (f : ℕ → Bool) (r : ℕ → ℕ) (at : ℕ → ℕ) (In 
 
 -- the same places, tasks and ranks said in another way
 pub standing-like : (f f′ : ℕ → Bool) (r r′ : ℕ → ℕ) (at at′ : ℕ → ℕ) (In In′ : ℕ → Type 0) → Standing f r at In
-    → ((j : ℕ) → j < 64 → f′ j ≡ f j) → ((j : ℕ) → j < 64 → r′ j ≡ r j) → ((k : ℕ) → In k → at′ k ≡ at k)
+    → ((j : ℕ) → j < 64 → f′ j ≡ f j) → ((j : ℕ) → j < 64 → f j ≡ true → r′ j ≡ r j) → ((k : ℕ) → In k → at′ k ≡ at k)
     → ((k : ℕ) → In′ k → In k) → ((k : ℕ) → In k → In′ k) → Standing f′ r′ at′ In′
 standing-like f f′ r r′ at at′ In In′ st fs rs ats inside outside = record {
   each = λ k u. (task k (inside k u), fs (at′ k) (task k (inside k u)) ∙ ap f (ats k (inside k u)) ∙ st .each k (inside k u) .1);
@@ -60,7 +60,7 @@ standing-like f f′ r r′ at at′ In In′ st fs rs ats inside outside = reco
     task k u = rw (ats k u) (st .each k u .0)
 
     rank : (k : ℕ) → In k → r′ (at′ k) ≡ r (at k)
-    rank k u = rs (at′ k) (task k u) ∙ ap r (ats k u)
+    rank k u = rs (at′ k) (task k u) (ap f (ats k u) ∙ st .each k u .1) ∙ ap r (ats k u)
 
 module _ (f : ℕ → Bool) (r : ℕ → ℕ) (at : ℕ → ℕ) (In : ℕ → Type 0) (st : Standing f r at In) where
   -- no task stands at two places
@@ -114,14 +114,14 @@ module _ (f : ℕ → Bool) (r : ℕ → ℕ) (at : ℕ → ℕ) (In : ℕ → T
 pub standing-places : (f : ℕ → Bool) (r : ℕ → ℕ) (at : ℕ → ℕ) (In In′ : ℕ → Type 0) → Standing f r at In → ((k : ℕ) → In′ k → In k)
     → ((k : ℕ) → In k → In′ k) → Standing f r at In′
 standing-places f r at In In′ st inside outside =
-    standing-like f f r r at at In In′ st (λ j l. refl) (λ j l. refl) (λ k u. refl) inside outside
+    standing-like f f r r at at In In′ st (λ j l. refl) (λ j l e. refl) (λ k u. refl) inside outside
 
 -- the task at place b moves to place a, past no other
 pub standing-moved : (f : ℕ → Bool) (r : ℕ → ℕ) (at at′ : ℕ → ℕ) (In : ℕ → Type 0) (b a : ℕ) → Standing f r at In → In b → at′ a ≡ at b
     → ((k : ℕ) → In k → k ≢ b → at′ k ≡ at k) → ((k : ℕ) → In k → k ≢ b → k < a → k < b) → ((k : ℕ) → In k → k ≢ b → a < k → b < k)
     → Standing f r at′ (λ k. (k ≡ a) ⊎ (In k × (k ≢ b)))
 standing-moved f r at at′ In b a st u own others before behind =
-    standing-like (also (but f i) i) f r r at′ at′ In′ In′ entered (λ j l. sym (also-but f i j (st .each b u .1))) (λ j l. refl) (λ k v. refl)
+    standing-like (also (but f i) i) f r r at′ at′ In′ In′ entered (λ j l. sym (also-but f i j (st .each b u .1))) (λ j l e. refl) (λ k v. refl)
     (λ k v. v) (λ k v. v)
   where
     i : ℕ
@@ -146,12 +146,17 @@ ordered-standing f r w c row = record { each = row .each; rising = λ j k l u v.
 pub standing-ordered : (f : ℕ → Bool) (r : ℕ → ℕ) (w : List ℕ) (c : ℕ) → c ≤ 64 → Standing f r (rowAt w) (λ k. k < c) → Ordered f r w c
 standing-ordered f r w c few st = record { places = few; each = st .each; rising = λ j k l m. st .rising j k l (omega arith) m; all = st .all }
 
--- it stays in order where it has the same places, the same tasks have f and their ranks are the same
+-- it stays in order where it has the same places, the same tasks have f and the ranks of these are the same
+pub ordered-like : (f g : ℕ → Bool) (r q : ℕ → ℕ) (w v : List ℕ) (c : ℕ) → ((j : ℕ) → j < 64 → g j ≡ f j) → ((j : ℕ) → j < 64 → f j ≡ true → q j ≡ r j)
+    → ((k : ℕ) → k < c → rowAt v k ≡ rowAt w k) → Ordered f r w c → Ordered g q v c
+ordered-like f g r q w v c same-f same-r same-row row =
+    standing-ordered g q v c (row .places)
+    (standing-like f g r q (rowAt w) (rowAt v) (λ k. k < c) (λ k. k < c) (ordered-standing f r w c row) same-f same-r same-row (λ k l. l) (λ k l. l))
+
+-- so where every rank is the same
 pub ordered-stays : (f g : ℕ → Bool) (r q : ℕ → ℕ) (w v : List ℕ) (c : ℕ) → ((j : ℕ) → j < 64 → g j ≡ f j) → ((j : ℕ) → q j ≡ r j)
     → ((k : ℕ) → k < c → rowAt v k ≡ rowAt w k) → Ordered f r w c → Ordered g q v c
-ordered-stays f g r q w v c same-f same-r same-row row =
-    standing-ordered g q v c (row .places)
-    (standing-like f g r q (rowAt w) (rowAt v) (λ k. k < c) (λ k. k < c) (ordered-standing f r w c row) same-f (λ j l. same-r j) same-row (λ k l. l) (λ k l. l))
+ordered-stays f g r q w v c same-f same-r = ordered-like f g r q w v c same-f (λ j l e. same-r j)
 
 -- ---- a row with a gap
 
@@ -196,7 +201,7 @@ gapped-like f f′ r r′ w w′ q p c g fs rs ws = record {
   gap = g .gap;
   end = g .end;
   places = g .places;
-  row = standing-like f f′ r r′ (rowAt w) (rowAt w′) (Used q p c) (Used q p c) (g .row) fs rs ws (λ k u. u) (λ k u. u);
+  row = standing-like f f′ r r′ (rowAt w) (rowAt w′) (Used q p c) (Used q p c) (g .row) fs (λ j l e. rs j l) ws (λ k u. u) (λ k u. u);
 }
 
 module _ (f : ℕ → Bool) (r : ℕ → ℕ) (w : List ℕ) (q p c : ℕ) (g : Gapped f r w q p c) (next : p < c) where

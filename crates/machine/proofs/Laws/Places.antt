@@ -77,6 +77,11 @@ stands w p v l = put w p v (ltb-true p (length w) l)
 pub sets-passes : (w : List ℕ) (i : ℕ) (reads writes : List ℕ) (q : ℕ) → ltb q 648 ≡ true → getD (setsPut w i reads writes) q 0 ≡ getD w q 0
 sets-passes w i reads writes q l = sets-before w i reads writes q (ltb-true q 648 l)
 
+-- and one behind them
+pub sets-behind : (w : List ℕ) (i : ℕ) (reads writes : List ℕ) (k : ℕ) → ltb i 64 ≡ true
+    → getD (setsPut w i reads writes) (1160 + k) 0 ≡ getD w (1160 + k) 0
+sets-behind w i reads writes k l = sets-kept w i reads writes (1160 + k) (λ g m. omega (arith, ltb-true))
+
 -- a place before another
 pub row-behind : (k q : ℕ) → ltb q 8 ≡ true → eqb (8 + k) q ≡ false
 row-behind k q l = ne-eqb (8 + k) q (omega (arith, ltb-true))
@@ -102,6 +107,12 @@ set-behind i g q l = ne-eqb (648 + i * 8 + g) q (omega (arith, ltb-true))
 pub before-set : (i g q : ℕ) → ltb q 648 ≡ true → eqb q (648 + i * 8 + g) ≡ false
 before-set i g q l = ne-eqb q (648 + i * 8 + g) (omega (arith, ltb-true))
 
+pub rank-behind : (i q : ℕ) → ltb q 1160 ≡ true → eqb (1160 + i) q ≡ false
+rank-behind i q l = ne-eqb (1160 + i) q (omega (arith, ltb-true))
+
+pub before-rank : (i q : ℕ) → ltb q 1160 ≡ true → eqb q (1160 + i) ≡ false
+before-rank i q l = ne-eqb q (1160 + i) (omega (arith, ltb-true))
+
 -- two places of one kind
 pub rows-differ : (j k : ℕ) → eqb j k ≡ false → eqb (8 + j) (8 + k) ≡ false
 rows-differ j k e = let d : j ≢ k = eqb-false j k e in ne-eqb (8 + j) (8 + k) (omega arith)
@@ -117,6 +128,9 @@ numbers-differ i j f g e l m =
     let d : i ≢ j = eqb-false i j e in
     ne-eqb (136 + i * 8 + f) (136 + j * 8 + g) (omega (arith, ltb-true))
 
+pub ranks-differ : (i j : ℕ) → eqb i j ≡ false → eqb (1160 + i) (1160 + j) ≡ false
+ranks-differ i j e = let d : i ≢ j = eqb-false i j e in ne-eqb (1160 + i) (1160 + j) (omega arith)
+
 -- how far a place lies
 pub row-below : (k n : ℕ) → ltb k 64 ≡ true → leb 72 n ≡ true → ltb (8 + k) n ≡ true
 row-below k n l m = lt-ltb (8 + k) n (omega (arith, ltb-true, leb-true))
@@ -130,5 +144,8 @@ number-below i f n l lf m = lt-ltb (136 + i * 8 + f) n (omega (arith, ltb-true, 
 pub set-below : (i g n : ℕ) → ltb i 64 ≡ true → ltb g 8 ≡ true → leb 1160 n ≡ true → ltb (648 + i * 8 + g) n ≡ true
 set-below i g n l lg m = lt-ltb (648 + i * 8 + g) n (omega (arith, ltb-true, leb-true))
 
+pub rank-below : (i n : ℕ) → ltb i 64 ≡ true → leb 1224 n ≡ true → ltb (1160 + i) n ≡ true
+rank-below i n l m = lt-ltb (1160 + i) n (omega (arith, ltb-true, leb-true))
+
 -- `simp (chain, size)`, with size : length w ≡ 1280 and, where a task's place is asked for, i < 64 as a test
-pub ruleset chain = (passes, stands, length-set, sets-passes, sets-length, row-behind, before-row, above-behind, before-above, number-behind, before-number, set-behind, before-set, rows-differ, aboves-differ, fields-differ, numbers-differ, row-below, above-below, number-below, set-below)
+pub ruleset chain = (passes, stands, length-set, sets-passes, sets-behind, sets-length, row-behind, before-row, above-behind, before-above, number-behind, before-number, set-behind, before-set, rank-behind, before-rank, rows-differ, aboves-differ, fields-differ, numbers-differ, ranks-differ, row-below, above-below, number-below, set-below, rank-below)

@@ -1,6 +1,6 @@
 -- What an event changes, with its definition one step open; that no event changes m; and what an event comes to by its number: the refusal where one is given, and else
 -- the accepted event.
-use Prim.Native.Nat.{ℕ, _+_}
+use Prim.Native.Nat.{ℕ, _+_, _%_, _<_}
 use mathlib.Core.Path.{_≡_, refl, sym, ap, _∙_}
 use mathlib.Core.Logic.{_≢_, inl}
 use mathlib.Core.List.{List, []}
@@ -16,16 +16,24 @@ use Rattle.rules.specs.declared.Said.the-variants.{Ok, Run}
 use Rattle.rules.specs.Events.{empty}
 use Rattle.machine.specs.declared.Reply.{Reply}
 use Rattle.machine.specs.Bits.{withBit, withoutBit}
-use Rattle.machine.specs.Places.{mOf, plainOf, waitingOf, executingOf, rowHeld, numberPlace, releasesAt, setsPut}
+use Rattle.machine.specs.Places.{mOf, plainOf, waitingOf, executingOf, rowHeld, rankPlace, numberPlace, releasesAt, setsPut}
 use Rattle.machine.specs.Asked.{blockedIn, waitSaidIn}
+use Rattle.machine.specs.Ranks.{ranksMoved, rankGiven}
 use Rattle.machine.specs.Row.{rowPut}
-use Rattle.machine.specs.Events.{arriveNumberIn, finishNumberIn, releaseNumberIn, commitNumberIn, Outcome, saying, refusedIn, stillIn, scanningIn, stampedIn, arrivedIn, arriveIn, releasedIn, runsIn, waitsIn, releaseAcceptedIn, releaseIn, raisedIn, busyIn, committedIn, commitIn, finishedIn, finishIn, stepIn}
-use Rattle.machine.proofs.Laws.Places.{sets-before}
+use Rattle.machine.specs.Events.{arriveNumberIn, finishNumberIn, releaseNumberIn, commitNumberIn, Outcome, saying, refusedIn, stillIn, scanningIn, stampedIn, turnsPlain, arrivedIn, arriveIn, releasedIn, runsIn, waitsIn, releaseAcceptedIn, releaseIn, raisedIn, busyIn, committedIn, commitIn, finishedIn, finishIn, stepIn}
+use Rattle.machine.proofs.Laws.Places.{kept, sets-before}
 use Rattle.machine.proofs.Laws.RowPut.{row-put-kept}
 use Rattle.machine.proofs.Laws.Raised.{raised-aside, aside-low}
+use Rattle.placing.proofs.Laws.Tasks.{task-mod}
 use Rattle.manager.proofs.Laws.Places.{beside-two}
 
 -- ---- what an event changes
+
+-- a job that is put among the ranks last, at its rank
+pub arrived-last : (w v u : List ℕ) (tick i rank : ℕ) → i < 64 → u ≡ ranksMoved (set v (rankPlace i) rank) (i % 64) → rank ≡ rankGiven v tick i → v ≡ turnsPlain w tick i
+    → u ≡ arrivedIn w tick i
+unfolding arrivedIn
+arrived-last w v u tick i rank li moved given plain = moved ∙ rw (task-mod i li, given, plain)
 
 pub released-is : (w : List ℕ) (tick i : ℕ) (reads writes : List ℕ)
     → releasedIn w tick i reads writes
@@ -55,7 +63,9 @@ stamped-m : (w : List ℕ) (tick : ℕ) → mOf (stampedIn w tick) ≡ mOf w
 stamped-m w tick = beside-two w 2 3 0 tick _ (omega arith) (omega arith)
 
 pub finished-m : (w : List ℕ) (tick i : ℕ) → mOf (finishedIn w tick i) ≡ mOf w
-finished-m w tick i = beside-two (stampedIn w tick) 4 (numberPlace i 4) 0 _ 0 (omega arith) (omega arith) ∙ stamped-m w tick
+finished-m w tick i =
+    let v = set (stampedIn w tick) 4 (withoutBit (plainOf w) i) in
+    beside-two v (numberPlace i 4) (rankPlace i) 0 0 0 (omega arith) (omega arith) ∙ kept (stampedIn w tick) 4 0 _ (omega arith) ∙ stamped-m w tick
 
 pub committed-m : (w : List ℕ) (tick i : ℕ) → mOf (committedIn w tick i) ≡ mOf w
 committed-m w tick i =

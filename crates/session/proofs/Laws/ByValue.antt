@@ -16,7 +16,7 @@ use Rattle.rules.specs.declared.Session.{Session}
 use Rattle.rules.specs.declared.Event.{Event}
 use Rattle.rules.specs.declared.Answer.{Answer}
 use Rattle.rules.specs.declared.Said.{Said}
-use Rattle.rules.specs.Ranking.{byPriority}
+use Rattle.rules.specs.Ranking.{byRank}
 use Rattle.rules.specs.Scan.{noAdmission}
 use Rattle.rules.specs.Listed.{admissionAt}
 use Rattle.rules.specs.Tasks.{allowed}
@@ -26,11 +26,9 @@ use Rattle.machine.specs.Events.{Outcome, saying, stepIn}
 use Rattle.machine.specs.Opened.{opened, readBack}
 use Rattle.machine.specs.Holds.{Holds}
 use Rattle.machine.specs.Theorem.{listedAt, Answers, Fits, Sized, Sixteen, ListFits}
-use Rattle.rules.proofs.Ranking.{priority-strict}
 use Rattle.rules.proofs.Laws.Numbers.{allowed-past}
 use Rattle.rules.proofs.Laws.Steps.{step-cases}
 use Rattle.machine.proofs.Step.{step-holds}
-use Rattle.machine.proofs.Demands.{priority-fixed}
 use Rattle.machine.proofs.Opened.{opened-holds}
 use Rattle.machine.proofs.Back.{reads-back}
 use Rattle.machine.proofs.Fits.{step-fits, step-beside}
@@ -93,13 +91,13 @@ module _ (w list : List ℕ) (s : Session) (e : Event) (size : length w ≡ 1280
   x = stepIn (opened w s) list e
 
   abbrev a : Answer
-  a = step byPriority s e
+  a = step byRank s e
 
-  held : Answers s e x a × Holds byPriority (x .words) (a .session)
-  held = step-holds byPriority (priority-strict .0) priority-fixed (opened w s) list s e places (opened-holds w s size sized few)
+  held : Answers s e x a × Holds byRank (x .words) (a .session)
+  held = step-holds (opened w s) list s e places (opened-holds w s size sized (λ i l. fits .period i) few)
 
   lists : ListFits (a .admitted)
-  lists = step-lists byPriority s e in-time fits
+  lists = step-lists byRank s e in-time fits
 
   -- the numbers of an admission fit their places, and so stay what they are
   small : (k : ℕ) → k < a .admitted .count → admissionIn (x .list) k ≡ admissionAt (a .admitted) k
@@ -116,8 +114,8 @@ module _ (w list : List ℕ) (s : Session) (e : Event) (size : length w ≡ 1280
 
   pub by-value : made-of (x .said) (admissionsIn (x .list) (x .admitted)) (readBack (x .words) s) ≡ a
   by-value =
-      let session = reads-back byPriority (x .words) (a .session) s (held .1) (step-fits byPriority s e in-time fits) sized (step-beside byPriority s e) in
-      let admitted = listed-are (x .list) (x .admitted) (a .admitted) (step-sixteen byPriority s e) (held .0 .admitted) small in
+      let session = reads-back byRank (x .words) (a .session) s (held .1) (step-fits byRank s e in-time fits) sized (step-beside byRank s e) in
+      let admitted = listed-are (x .list) (x .admitted) (a .admitted) (step-sixteen byRank s e) (held .0 .admitted) small in
       rw (held .0 .said, admitted, session)
 
   -- and so where each call's own contract says what it gave
@@ -141,9 +139,9 @@ module _ (s : Session) (many : 64 < s .n) where
   by-1 : (k : ℕ) (accepts : Answer) → k ≡ 1 → cond (eqb k 0) accepts (refused s k) ≡ refused s 1
   by-1 k accepts e = rw e
 
-  pub too-many : (e : Event) → step byPriority s e ≡ refused s 1
+  pub too-many : (e : Event) → step byRank s e ≡ refused s 1
   unfolding arrive arriveNumber release releaseNumber commit commitNumber finish finishNumber
   too-many e =
-      step-cases byPriority s e (λ a. a ≡ refused s 1) (λ kind. by-1 (arriveNumber s (e .tick) (e .task)) _ (first _ _ _))
-      (λ kind. by-1 (releaseNumber byPriority s (e .tick) (e .task)) _ (first _ _ _)) (λ kind. by-1 (commitNumber s (e .tick) (e .task)) _ (first _ _ _))
-      (λ kind. by-1 (finishNumber byPriority s (e .tick) (e .task)) _ (first _ _ _))
+      step-cases byRank s e (λ a. a ≡ refused s 1) (λ kind. by-1 (arriveNumber s (e .tick) (e .task)) _ (first _ _ _))
+      (λ kind. by-1 (releaseNumber byRank s (e .tick) (e .task)) _ (first _ _ _)) (λ kind. by-1 (commitNumber s (e .tick) (e .task)) _ (first _ _ _))
+      (λ kind. by-1 (finishNumber byRank s (e .tick) (e .task)) _ (first _ _ _))

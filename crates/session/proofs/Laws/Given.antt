@@ -26,9 +26,9 @@ use Rattle.machine.proofs.Fits.{TaskFits, TasksFit, fits-of}
 
 pub sized : (s : Session) (values : List Val) → Is (row session.the-type) s values → Sized s
 sized s values is = record {
-  tasks = sym (length-map (s .tasks) (task.the-field .into)) ∙ is .1 .1 .1 .1 .1 .1 .0 .1 .0 .1;
-  reads = sym (length-map (s .reads) (u64-field .into)) ∙ is .1 .1 .1 .1 .1 .1 .1 .0 .1 .0 .1;
-  writes = sym (length-map (s .writes) (u64-field .into)) ∙ is .1 .1 .1 .1 .1 .1 .1 .1 .0 .1 .0 .1;
+  tasks = sym (length-map (s .tasks) (task.the-field .into)) ∙ is .1 .1 .1 .1 .1 .1 .1 .0 .1 .0 .1;
+  reads = sym (length-map (s .reads) (u64-field .into)) ∙ is .1 .1 .1 .1 .1 .1 .1 .1 .0 .1 .0 .1;
+  writes = sym (length-map (s .writes) (u64-field .into)) ∙ is .1 .1 .1 .1 .1 .1 .1 .1 .1 .0 .1 .0 .1;
 }
 
 -- what is told of tasks, each at its machine value
@@ -37,10 +37,10 @@ Told ts us = shadow (each (task.the-field .row .Denot) (task.the-field .row .own
 
 -- with another state or another arrival
 abbrev with-state : Task → State → Task
-with-state t r = record { terms = t .terms; state = r; arrival = t .arrival; releases = t .releases }
+with-state t r = record { terms = t .terms; state = r; arrival = t .arrival; releases = t .releases; rank = t .rank }
 
 abbrev with-arrival : Task → Arrival → Task
-with-arrival t a = record { terms = t .terms; state = t .state; arrival = a; releases = t .releases }
+with-arrival t a = record { terms = t .terms; state = t .state; arrival = a; releases = t .releases; rank = t .rank }
 
 record WaitFits (v : Wait) : Type 0 where
   release : v .release < 2 ^ 32
@@ -99,5 +99,5 @@ tasks-told (t ∷ ts) (u ∷ us) p (suc j) = tasks-told ts us (p .1) j
 
 pub session-fits : (s : Session) (values : List Val) → Is (row session.the-type) s values → Fits s
 session-fits s values is =
-    fits-of s (is .1 .1 .0 .1) (is .1 .1 .1 .0 .1) (is .1 .1 .1 .1 .0 .1) (is .1 .1 .1 .1 .1 .0 .1)
-    (tasks-told (s .tasks) (is .1 .1 .1 .1 .1 .1 .0 .0) (is .1 .1 .1 .1 .1 .1 .0 .1 .1))
+    fits-of s (is .1 .1 .0 .1) (is .1 .1 .1 .0 .1) (is .1 .1 .1 .1 .0 .1) (is .1 .1 .1 .1 .1 .0 .1) (is .1 .1 .1 .1 .1 .1 .0 .1)
+    (tasks-told (s .tasks) (is .1 .1 .1 .1 .1 .1 .1 .0 .0) (is .1 .1 .1 .1 .1 .1 .1 .0 .1 .1))

@@ -19,16 +19,16 @@ abbrev μ-loop : tie.MeasureT-loop
 μ-loop words back₀ end i₀ back i = end - i
 
 -- how many tasks are read back
-end-is : (c : tie.Joined1 Inv-loop μ-loop) → c .if1 .end ≡ min (nOf (c .before .before .before .before .before .before .args .words .now)) 64
+end-is : (c : tie.Joined1 Inv-loop μ-loop) → c .if1 .end ≡ min (nOf (c .before .before .before .before .before .before .before .args .words .now)) 64
 end-is c =
-    let n = nOf (c .before .before .before .before .before .before .args .words .now) in
+    let n = nOf (c .before .before .before .before .before .before .before .args .words .now) in
     ⊎-elim (λ w. at-most-below n 64 (c .if1 .end) (w .0 .taken) (w .2)) (λ w. at-most-reached n 64 (c .if1 .end) (w .0 .left) (w .1)) (c .if1 .came)
 
 -- a task that is read back is below 64
 task-small : (c : tie.In-loop Inv-loop μ-loop) → c .before .loop .i < 64
 task-small c =
     let joined = c .before .before in
-    omega (arith, c .loop-test .taken, end-is joined, min-le-right (nOf (joined .before .before .before .before .before .before .args .words .now)) 64)
+    omega (arith, c .loop-test .taken, end-is joined, min-le-right (nOf (joined .before .before .before .before .before .before .before .args .words .now)) 64)
 
 element-copy-out-back : tie.Need-element-copy-out-back Inv-loop μ-loop
 element-copy-out-back c = omega arith
@@ -54,6 +54,12 @@ element-copy-out-back-4 c = omega arith
 cast-back-4 : tie.Need-cast-back-4 Inv-loop μ-loop
 cast-back-4 c = search needs
 
+element-copy-out-back-5 : tie.Need-element-copy-out-back-5 Inv-loop μ-loop
+element-copy-out-back-5 c = omega arith
+
+cast-back-5 : tie.Need-cast-back-5 Inv-loop μ-loop
+cast-back-5 c = search needs
+
 element-copy-out-if1 : tie.Need-element-copy-out-if1 Inv-loop μ-loop
 element-copy-out-if1 c = omega arith
 
@@ -62,13 +68,13 @@ element-copy-out-end c = omega arith
 
 loop-holds : tie.Need-loop-holds Inv-loop μ-loop
 loop-holds c =
-    let a = c .before .before .before .before .before .before .args in (back-none (a .words .now) (numbersBack (a .words .now) (a .s)), omega arith)
+    let a = c .before .before .before .before .before .before .before .args in (back-none (a .words .now) (numbersBack (a .words .now) (a .s)), omega arith)
 
 task-back-requires : tie.Need-task-back-requires Inv-loop μ-loop
 task-back-requires c κs = task-small c
 
-mul-t26 : tie.Need-mul-t26 Inv-loop μ-loop
-mul-t26 c = omega (arith, task-small (c .before))
+mul-t28 : tie.Need-mul-t28 Inv-loop μ-loop
+mul-t28 c = omega (arith, task-small (c .before))
 
 element-set-from-back : tie.Need-element-set-from-back Inv-loop μ-loop
 element-set-from-back c = task-small (c .before)
@@ -100,7 +106,7 @@ loop-less c = omega arith
 loop-again : tie.Need-loop-again Inv-loop μ-loop
 loop-again c =
     let head = c .before .before .before .before .before .before in
-    let a = c .before .before .before .before .before .before .before .before .before .before .before .before .before .args in
+    let a = c .before .before .before .before .before .before .before .before .before .before .before .before .before .before .args in
     let k = head .loop .i in
     let writes : 652 + k * 8 ≡ 648 + k * 8 + 4 = omega arith in (
       back-more (a .words .now) (numbersBack (a .words .now) (a .s)) k (head .loop .back) _ (head .loop .inv .0)
@@ -111,7 +117,7 @@ loop-again c =
 returns : tie.Need-returns Inv-loop μ-loop
 returns c =
     let head = c .before in
-    let a = c .before .before .before .before .before .before .before .before .args in
+    let a = c .before .before .before .before .before .before .before .before .before .args in
     let all : head .loop .i ≡ min (nOf (a .words .now)) 64 = omega (arith, c .loop-test .left, head .loop .inv .1, end-is (c .before .before)) in
     back-whole (a .words .now) (a .s) (head .loop .i) (head .loop .back) all (head .loop .inv .0)
 
@@ -129,11 +135,13 @@ read-spec =
     cast-back-3
     element-copy-out-back-4
     cast-back-4
+    element-copy-out-back-5
+    cast-back-5
     element-copy-out-if1
     element-copy-out-end
     loop-holds
     task-back-requires
-    mul-t26
+    mul-t28
     element-set-from-back
     mul-four-back
     add-four-back

@@ -4,7 +4,7 @@ use mathlib.Core.Path.{_≡_, refl, sym, _∙_}
 use mathlib.Core.List.{List}
 use native.Mathlib.Nat.{add-zero}
 use borrow.Author.Needs.{needs}
-use Rattle.machine.specs.Places.{priorityAt, periodAt, transactionsAt, arrivalAt, releasesAt}
+use Rattle.machine.specs.Places.{jobRankAt, priorityAt, periodAt, transactionsAt, arrivalAt, releasesAt}
 use Rattle.machine.specs.Opened.{arrivalBack, stateBack, taskBack}
 use Rattle.laid.proofs.back.task_back.Statement.{statement}
 use Rattle.laid.proofs.back.task_back.Tie as tie
@@ -16,6 +16,7 @@ task-is : (w : List ℕ) (i : ℕ)
       state = stateBack w i;
       arrival = arrivalBack (arrivalAt w i);
       releases = releasesAt w i % 256;
+      rank = jobRankAt w i;
     })
 unfolding taskBack
 task-is w i = refl
@@ -86,10 +87,19 @@ element-copy-out-t24-2 c = search needs
 cast-t26-2 : tie.Need-cast-t26-2
 cast-t26-2 c = search needs
 
+add-t13-2 : tie.Need-add-t13-2
+add-t13-2 c = search needs
+
+mul-t7-2 : tie.Need-mul-t7-2
+mul-t7-2 c = search needs
+
+element-copy-out-t18 : tie.Need-element-copy-out-t18
+element-copy-out-t18 c = search needs
+
 returns : tie.Need-returns
 returns c =
-    let a = c .before .before .before .before .before .before .before .args in
-    sym (task-is (a .words .now) (a .i) ∙ rw (add-zero (136 + a .i * 8), ← c .before .arrival-back .ensures, ← c .before .before .before .state-back .ensures))
+    let a = c .before .before .before .before .before .before .before .before .args in
+    sym (task-is (a .words .now) (a .i) ∙ rw (add-zero (136 + a .i * 8), ← c .before .before .arrival-back .ensures, ← c .before .before .before .before .state-back .ensures))
 
 pub task-back-spec : {M : Type 1} → statement M
 task-back-spec =
@@ -117,4 +127,7 @@ task-back-spec =
     mul-t20
     element-copy-out-t24-2
     cast-t26-2
+    add-t13-2
+    mul-t7-2
+    element-copy-out-t18
     returns)

@@ -1,4 +1,4 @@
--- `laid::numbers::put_numbers` meets its contract: the eight numbers are put one by one. Assumes nothing.
+-- `laid::numbers::put_numbers` meets its contract: the nine numbers are put one by one. Assumes nothing.
 use Prim.Native.Nat.{_+_, _*_}
 use native.Mathlib.Nat.{add-zero}
 use borrow.Author.Needs.{needs}
@@ -71,9 +71,6 @@ mul-words-5 c = search needs
 element-write-words-5 : tie.Need-element-write-words-5
 element-write-words-5 c = search needs
 
-cast-words-5 : tie.Need-cast-words-5
-cast-words-5 c = search needs
-
 add-words-5 : tie.Need-add-words-5
 add-words-5 c = search needs
 
@@ -83,8 +80,8 @@ mul-words-6 c = search needs
 element-write-words-6 : tie.Need-element-write-words-6
 element-write-words-6 c = search needs
 
-cast-words-6 : tie.Need-cast-words-6
-cast-words-6 c = search needs
+cast-words-5 : tie.Need-cast-words-5
+cast-words-5 c = search needs
 
 add-words-6 : tie.Need-add-words-6
 add-words-6 c = search needs
@@ -95,8 +92,8 @@ mul-words-7 c = search needs
 element-write-words-7 : tie.Need-element-write-words-7
 element-write-words-7 c = search needs
 
-cast-words-7 : tie.Need-cast-words-7
-cast-words-7 c = search needs
+cast-words-6 : tie.Need-cast-words-6
+cast-words-6 c = search needs
 
 add-words-7 : tie.Need-add-words-7
 add-words-7 c = search needs
@@ -106,6 +103,18 @@ mul-words-8 c = search needs
 
 element-write-words-8 : tie.Need-element-write-words-8
 element-write-words-8 c = search needs
+
+cast-words-7 : tie.Need-cast-words-7
+cast-words-7 c = search needs
+
+add-words-8 : tie.Need-add-words-8
+add-words-8 c = search needs
+
+mul-words-9 : tie.Need-mul-words-9
+mul-words-9 c = search needs
+
+element-write-words-9 : tie.Need-element-write-words-9
+element-write-words-9 c = search needs
 
 returns : tie.Need-returns
 returns c =
@@ -139,16 +148,19 @@ put-numbers-spec =
     add-words-4
     mul-words-5
     element-write-words-5
-    cast-words-5
     add-words-5
     mul-words-6
     element-write-words-6
-    cast-words-6
+    cast-words-5
     add-words-6
     mul-words-7
     element-write-words-7
-    cast-words-7
+    cast-words-6
     add-words-7
     mul-words-8
     element-write-words-8
+    cast-words-7
+    add-words-8
+    mul-words-9
+    element-write-words-9
     returns)

@@ -76,6 +76,12 @@ element-write-words-7 c = omega arith
 element-write-words-8 : tie.Need-element-write-words-8 Inv-loop μ-loop Inv-loop2 μ-loop2
 element-write-words-8 c = omega arith
 
+cast-words-5 : tie.Need-cast-words-5 Inv-loop μ-loop Inv-loop2 μ-loop2
+cast-words-5 c = search needs
+
+element-write-words-9 : tie.Need-element-write-words-9 Inv-loop μ-loop Inv-loop2 μ-loop2
+element-write-words-9 c = omega arith
+
 cast-end : tie.Need-cast-end Inv-loop μ-loop Inv-loop2 μ-loop2
 cast-end c = search needs
 
@@ -118,17 +124,8 @@ loop-again c =
 loop2-holds : tie.Need-loop2-holds Inv-loop μ-loop Inv-loop2 μ-loop2
 loop2-holds c = (states-none (c .before .loop .words) (c .before .before .before .args .t2), omega arith)
 
-above-word-requires : tie.Need-above-word-requires Inv-loop μ-loop Inv-loop2 μ-loop2
-above-word-requires c κs = state-small (c .before)
-
-add-words : tie.Need-add-words Inv-loop μ-loop Inv-loop2 μ-loop2
-add-words c = omega (arith, state-small (c .before .before))
-
-mul-words : tie.Need-mul-words Inv-loop μ-loop Inv-loop2 μ-loop2
-mul-words c = omega (arith, state-small (c .before .before))
-
-element-write-words-9 : tie.Need-element-write-words-9 Inv-loop μ-loop Inv-loop2 μ-loop2
-element-write-words-9 c = omega (arith, state-small (c .before .before))
+put-in-rank-requires : tie.Need-put-in-rank-requires Inv-loop μ-loop Inv-loop2 μ-loop2
+put-in-rank-requires c κs = search needs
 
 mul-t-2 : tie.Need-mul-t-2 Inv-loop μ-loop Inv-loop2 μ-loop2
 mul-t-2 c = omega (arith, state-small (c .before .before))
@@ -150,7 +147,7 @@ loop2-again c =
     let head = c .before .before .before .before .before .before in
     let a = c .before .before .before .before .before .before .before .before .before .before .args in (
       states-more (head .before .before .loop .words) (a .t2) (head .loop2 .i) (head .loop2 .words) (c .put-state .last .0) (head .loop2 .inv .0)
-          (c .put-state .ensures ∙ rw (c .before .before .before .above-word .ensures)),
+          (c .put-state .ensures ∙ rw (c .before .before .before .put-in-rank .ensures, task-mod (head .loop2 .i) (state-small (c .before .before .before .before .before)))),
       omega arith,
     )
 
@@ -184,6 +181,8 @@ open-spec =
     element-write-words-6
     element-write-words-7
     element-write-words-8
+    cast-words-5
+    element-write-words-9
     cast-end
     loop-holds
     mul-t
@@ -196,10 +195,7 @@ open-spec =
     loop-less
     loop-again
     loop2-holds
-    above-word-requires
-    add-words
-    mul-words
-    element-write-words-9
+    put-in-rank-requires
     mul-t-2
     element-copy-out-t-2
     put-state-requires

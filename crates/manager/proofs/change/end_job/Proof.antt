@@ -33,6 +33,15 @@ mul-words-2 c = search needs
 element-write-words-2 : tie.Need-element-write-words-2
 element-write-words-2 c = search needs
 
+add-words-3 : tie.Need-add-words-3
+add-words-3 c = search needs
+
+mul-words-3 : tie.Need-mul-words-3
+mul-words-3 c = search needs
+
+element-write-words-3 : tie.Need-element-write-words-3
+element-write-words-3 c = search needs
+
 returns : tie.Need-returns
 returns c =
     let a = c .before .before .before .before .args in
@@ -51,4 +60,7 @@ end-job-spec =
     add-words-2
     mul-words-2
     element-write-words-2
+    add-words-3
+    mul-words-3
+    element-write-words-3
     returns)

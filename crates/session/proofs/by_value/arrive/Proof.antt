@@ -3,7 +3,7 @@ use mathlib.Core.Path.{_≡_, refl, ap, _∙_}
 use borrow.Author.Needs.{needs}
 use Rattle.rules.specs.declared.Event.{Event}
 use Rattle.rules.specs.declared.Answer.{Answer}
-use Rattle.rules.specs.Ranking.{byPriority}
+use Rattle.rules.specs.Ranking.{byRank}
 use Rattle.rules.specs.Events.{step}
 use Rattle.session.proofs.by_value.arrive.Statement.{statement}
 use Rattle.session.proofs.by_value.arrive.Tie as tie
@@ -16,7 +16,7 @@ step-requires c κs = search needs
 
 returns : tie.Need-returns
 unfolding step
-returns c = c .step .ensures ∙ ap (step byPriority (c .before .before .args .s)) (c .before .plain-event .ensures)
+returns c = c .step .ensures ∙ ap (step byRank (c .before .before .args .s)) (c .before .plain-event .ensures)
 
 pub arrive-spec : {M : Type 1} → statement M
 arrive-spec = tie.close (tie.spec plain-event-requires step-requires returns)

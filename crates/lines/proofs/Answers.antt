@@ -20,7 +20,7 @@ use Rattle.rules.specs.declared.Said.{Said}
 use Rattle.rules.specs.declared.Said.the-variants.{Ok}
 use Rattle.rules.specs.declared.Admission.{Admission}
 use Rattle.rules.specs.declared.Answer.{Answer}
-use Rattle.rules.specs.Ranking.{byPriority}
+use Rattle.rules.specs.Ranking.{byRank}
 use Rattle.rules.specs.Tasks.{freshTask, waitOf, noTask, taskAt, stateAt, waiting, setsAt, setsOf, known, allowed, inState, withTask, stamped}
 use Rattle.rules.specs.Setup.{termsAt, freshTasks, fresh, noSession}
 use Rattle.rules.specs.Room.{ran}
@@ -71,12 +71,12 @@ raised-all hadRun s x (suc k) all = go (waiting s k && clash x (setsAt s k)) (ra
 abbrev pub Entries : Answer → Type 0
 Entries a = (k : ℕ) → k < a .admitted .count → SmallEntry (admissionAt (a .admitted) k)
 
-scanned : (said : Said) (s : Session) → s .m ≤ 16 → s .n ≤ 64 → HeldAll (s .tasks) → Entries (scanning byPriority said s)
-scanned said s m n all = λ k l. entry k (scan-settled byPriority s m .entries k l)
+scanned : (said : Said) (s : Session) → s .m ≤ 16 → s .n ≤ 64 → HeldAll (s .tasks) → Entries (scanning byRank said s)
+scanned said s m n all = λ k l. entry k (scan-settled byRank s m .entries k l)
   where
-    entry : (k : ℕ) → Entry s (admissionAt (scan byPriority s .admitted) k) → SmallEntry (admissionAt (scan byPriority s .admitted) k)
+    entry : (k : ℕ) → Entry s (admissionAt (scan byRank s .admitted) k) → SmallEntry (admissionAt (scan byRank s .admitted) k)
     entry k e =
-        let new = admissionAt (scan byPriority s .admitted) k in
+        let new = admissionAt (scan byRank s .admitted) k in
         record {
           task = omega (arith, e .0);
           clashes = rw (ap (λ (y : Admission). y .clashes) (e .2)) (all (new .task) .0);
@@ -93,34 +93,34 @@ module _ (s : Session) (e : Event) (all : HeldAll (s .tasks)) where
   refuses : (k : ℕ) → k ≢ 0 → Entries (refused s k)
   refuses k n = λ k l. absurd (omega arith)
 
-  waits : releaseNumber byPriority s (e .tick) (e .task) ≡ 0 → blocked s (setsOf (e .reads) (e .writes)) ≡ true
-      → Entries (scanning byPriority (waitSaid byPriority s (setsOf (e .reads) (e .writes))) (releasedInto s (e .tick) (e .task) (e .reads) (e .writes) (begins (e .tick))))
+  waits : releaseNumber byRank s (e .tick) (e .task) ≡ 0 → blocked s (setsOf (e .reads) (e .writes)) ≡ true
+      → Entries (scanning byRank (waitSaid byRank s (setsOf (e .reads) (e .writes))) (releasedInto s (e .tick) (e .task) (e .reads) (e .writes) (begins (e .tick))))
   unfolding releaseNumber
   waits z b =
-      scanned (waitSaid byPriority s (setsOf (e .reads) (e .writes))) (releasedInto s (e .tick) (e .task) (e .reads) (e .writes) (begins (e .tick)))
+      scanned (waitSaid byRank s (setsOf (e .reads) (e .writes))) (releasedInto s (e .tick) (e .task) (e .reads) (e .writes) (begins (e .tick)))
       (allowed-m s (e .tick) (e .task) _ z) (timely s (e .tick) (e .task) _ z .n-high) (set-held (s .tasks) (e .task) _ (omega arith, omega arith) all)
 
-  commits : commitNumber s (e .tick) (e .task) ≡ 0 → Entries (scanning byPriority Ok (committed byPriority s (e .tick) (e .task)))
+  commits : commitNumber s (e .tick) (e .task) ≡ 0 → Entries (scanning byRank Ok (committed byRank s (e .tick) (e .task)))
   unfolding commitNumber
   commits z =
-      scanned Ok (committed byPriority s (e .tick) (e .task)) (allowed-m s (e .tick) (e .task) _ z) (timely s (e .tick) (e .task) _ z .n-high)
-      (set-held (raised (ran byPriority s) s (setsAt s (e .task)) (s .n)) (e .task) (inState (taskAt s (e .task)) Plain) (omega arith, omega arith)
-      (raised-all (ran byPriority s) s (setsAt s (e .task)) (s .n) all))
+      scanned Ok (committed byRank s (e .tick) (e .task)) (allowed-m s (e .tick) (e .task) _ z) (timely s (e .tick) (e .task) _ z .n-high)
+      (set-held (raised (ran byRank s) s (setsAt s (e .task)) (s .n)) (e .task) (inState (taskAt s (e .task)) Plain) (omega arith, omega arith)
+      (raised-all (ran byRank s) s (setsAt s (e .task)) (s .n) all))
 
-  finishes : finishNumber byPriority s (e .tick) (e .task) ≡ 0
-      → Entries (scanning byPriority Ok (withTask (stamped s (e .tick)) (e .task) (finished (taskAt s (e .task)))))
+  finishes : finishNumber byRank s (e .tick) (e .task) ≡ 0
+      → Entries (scanning byRank Ok (withTask (stamped s (e .tick)) (e .task) (finished (taskAt s (e .task)))))
   unfolding finishNumber
   finishes z =
       scanned Ok (withTask (stamped s (e .tick)) (e .task) (finished (taskAt s (e .task)))) (allowed-m s (e .tick) (e .task) _ z) (timely s (e .tick) (e .task) _ z .n-high)
       (set-held (s .tasks) (e .task) _ (omega arith, omega arith) all)
 
-  pub step-entries : Entries (step byPriority s e)
+  pub step-entries : Entries (step byRank s e)
   step-entries =
-      step-cases byPriority s e Entries
+      step-cases byRank s e Entries
       (λ kind. arrive-cases Entries s refuses (e .tick) (e .task) (λ z k l. absurd (omega arith)))
-      (λ kind. release-cases Entries s refuses (e .tick) (e .task) byPriority (e .reads) (e .writes) waits (λ z free k l. absurd (omega arith)))
-      (λ kind. commit-cases Entries s refuses (e .tick) (e .task) byPriority commits)
-      (λ kind. finish-cases Entries s refuses (e .tick) (e .task) byPriority finishes)
+      (λ kind. release-cases Entries s refuses (e .tick) (e .task) byRank (e .reads) (e .writes) waits (λ z free k l. absurd (omega arith)))
+      (λ kind. commit-cases Entries s refuses (e .tick) (e .task) byRank commits)
+      (λ kind. finish-cases Entries s refuses (e .tick) (e .task) byRank finishes)
 
 -- ---- the session after it
 
@@ -129,23 +129,23 @@ abbrev pub Keeps : Answer → Type 0
 Keeps a = HeldAll (a .session .tasks) × (a .session .accepted < 2 ^ 32)
 
 scan-keeps : (s : Session) → HeldAll (s .tasks) → s .accepted < 2 ^ 32
-    → HeldAll (scan byPriority s .session .tasks) × (scan byPriority s .session .accepted < 2 ^ 32)
+    → HeldAll (scan byRank s .session .tasks) × (scan byRank s .session .accepted < 2 ^ 32)
 scan-keeps s all l =
-    let kept = scan-kept byPriority s in
+    let kept = scan-kept byRank s in
     (λ j. go j (kept .each j), rw (kept .accepted) l)
   where
-    go : (j : ℕ) → (taskAt (scan byPriority s .session) j ≡ taskAt s j) ⊎ ((j < s .n) × (waiting s j ≡ true) × (taskAt (scan byPriority s .session) j ≡ inState (taskAt s j) Executing))
-        → Held (stateAt (scan byPriority s .session) j)
+    go : (j : ℕ) → (taskAt (scan byRank s .session) j ≡ taskAt s j) ⊎ ((j < s .n) × (waiting s j ≡ true) × (taskAt (scan byRank s .session) j ≡ inState (taskAt s j) Executing))
+        → Held (stateAt (scan byRank s .session) j)
     go j (inl e) = subst (λ (t : Task). Held (t .state)) (sym e) (all j)
     go j (inr e) = subst (λ (t : Task). Held (t .state)) (sym (e .2)) (omega arith, omega arith)
 
 module _ (s : Session) (e : Event) (all : HeldAll (s .tasks)) (count : s .accepted < 2 ^ 32) where
-  arrives-keep : arriveNumber s (e .tick) (e .task) ≡ 0 → Keeps (still Ok (withTask (stamped s (e .tick)) (e .task) (arrived (taskAt s (e .task)) (e .tick))))
+  arrives-keep : arriveNumber s (e .tick) (e .task) ≡ 0 → Keeps (still Ok (withTask (stamped s (e .tick)) (e .task) (arrived (s .mode) (taskAt s (e .task)) (e .tick))))
   unfolding arriveNumber
   arrives-keep z =
-      (set-held (s .tasks) (e .task) (arrived (taskAt s (e .task)) (e .tick)) (omega arith, omega arith) all, omega (arith, timely s (e .tick) (e .task) _ z .accepted))
+      (set-held (s .tasks) (e .task) (arrived (s .mode) (taskAt s (e .task)) (e .tick)) (omega arith, omega arith) all, omega (arith, timely s (e .tick) (e .task) _ z .accepted))
 
-  releases-keep : (state : State) → Held state → releaseNumber byPriority s (e .tick) (e .task) ≡ 0 →
+  releases-keep : (state : State) → Held state → releaseNumber byRank s (e .tick) (e .task) ≡ 0 →
       let s′ = releasedInto s (e .tick) (e .task) (e .reads) (e .writes) state in
       HeldAll (s′ .tasks) × (s′ .accepted < 2 ^ 32)
   unfolding releaseNumber
@@ -153,34 +153,34 @@ module _ (s : Session) (e : Event) (all : HeldAll (s .tasks)) (count : s .accept
       (set-held (s .tasks) (e .task) (released (taskAt s (e .task)) state) h all, omega (arith, timely s (e .tick) (e .task) _ z .accepted))
 
   commits-keep : commitNumber s (e .tick) (e .task) ≡ 0 →
-      let s′ = committed byPriority s (e .tick) (e .task) in
+      let s′ = committed byRank s (e .tick) (e .task) in
       HeldAll (s′ .tasks) × (s′ .accepted < 2 ^ 32)
   unfolding commitNumber
   commits-keep z = (
-    set-held (raised (ran byPriority s) s (setsAt s (e .task)) (s .n)) (e .task) (inState (taskAt s (e .task)) Plain) (omega arith, omega arith)
-        (raised-all (ran byPriority s) s (setsAt s (e .task)) (s .n) all),
+    set-held (raised (ran byRank s) s (setsAt s (e .task)) (s .n)) (e .task) (inState (taskAt s (e .task)) Plain) (omega arith, omega arith)
+        (raised-all (ran byRank s) s (setsAt s (e .task)) (s .n) all),
     omega (arith, timely s (e .tick) (e .task) _ z .accepted),
   )
 
-  finishes-keep : finishNumber byPriority s (e .tick) (e .task) ≡ 0 →
+  finishes-keep : finishNumber byRank s (e .tick) (e .task) ≡ 0 →
       let s′ = withTask (stamped s (e .tick)) (e .task) (finished (taskAt s (e .task))) in
       HeldAll (s′ .tasks) × (s′ .accepted < 2 ^ 32)
   unfolding finishNumber
   finishes-keep z =
       (set-held (s .tasks) (e .task) (finished (taskAt s (e .task))) (omega arith, omega arith) all, omega (arith, timely s (e .tick) (e .task) _ z .accepted))
 
-  pub step-keeps : Keeps (step byPriority s e)
+  pub step-keeps : Keeps (step byRank s e)
   step-keeps =
       let refuses : (k : ℕ) → k ≢ 0 → Keeps (refused s k) = λ k n. (all, count) in
-      step-cases byPriority s e Keeps
+      step-cases byRank s e Keeps
       (λ kind. arrive-cases Keeps s refuses (e .tick) (e .task) arrives-keep)
-      (λ kind. release-cases Keeps s refuses (e .tick) (e .task) byPriority (e .reads) (e .writes)
+      (λ kind. release-cases Keeps s refuses (e .tick) (e .task) byRank (e .reads) (e .writes)
       (λ z b.
       let h = releases-keep (begins (e .tick)) (omega arith, omega arith) z in
       scan-keeps (releasedInto s (e .tick) (e .task) (e .reads) (e .writes) (begins (e .tick))) (h .0) (h .1))
       (λ z b. releases-keep Executing (omega arith, omega arith) z))
-      (λ kind. commit-cases Keeps s refuses (e .tick) (e .task) byPriority (λ z. let h = commits-keep z in scan-keeps (committed byPriority s (e .tick) (e .task)) (h .0) (h .1)))
-      (λ kind. finish-cases Keeps s refuses (e .tick) (e .task) byPriority (λ z. let h = finishes-keep z in scan-keeps (withTask (stamped s (e .tick)) (e .task) (finished (taskAt s (e .task)))) (h .0) (h .1)))
+      (λ kind. commit-cases Keeps s refuses (e .tick) (e .task) byRank (λ z. let h = commits-keep z in scan-keeps (committed byRank s (e .tick) (e .task)) (h .0) (h .1)))
+      (λ kind. finish-cases Keeps s refuses (e .tick) (e .task) byRank (λ z. let h = finishes-keep z in scan-keeps (withTask (stamped s (e .tick)) (e .task) (finished (taskAt s (e .task)))) (h .0) (h .1)))
 
 -- ---- a session in which nothing has happened
 

@@ -14,7 +14,7 @@ use Rattle.rules.specs.declared.Session.{Session}
 use Rattle.rules.specs.declared.Event.{Event}
 use Rattle.rules.specs.declared.Answer.{Answer}
 use Rattle.rules.specs.Answers.{number}
-use Rattle.rules.specs.Ranking.{Ranking, byPriority}
+use Rattle.rules.specs.Ranking.{Ranking, byRank}
 use Rattle.rules.specs.Tasks.{isAbsent, isPlain, isExecuting, taskAt, stateAt, known, setsOf}
 use Rattle.rules.specs.Room.{room}
 use Rattle.rules.specs.Contest.{blocked}
@@ -94,12 +94,12 @@ module _ {u : Setup} {start : List ℕ} {t : Tally} {row : List ℕ} {o : OpenSe
       ∙ go (eqb n 0) (fitting (ledger (s ∷ earlier) ++ booksOf (s .setup) (heardBy e (booking t o e .booked)) (s .calls)))
     where
       n : ℕ
-      n = number (step byPriority (o .session) e .said)
+      n = number (step byRank (o .session) e .said)
 
       go : (accepts fits : Bool) → eqb (cond accepts (cond fits 0 41) n) 41 ≡ (accepts && not fits)
       go true true = refl
       go true false = refl
-      go false fits = ne-eqb n 41 (λ q. omega (arith, numbers-end byPriority (o .session) e))
+      go false fits = ne-eqb n 41 (λ q. omega (arith, numbers-end byRank (o .session) e))
 
   one-more : leftOf (called s e (booking t o e .booked) ∷ earlier) ≡ leftOf (s ∷ earlier) + one (eqb (booking t o e .booked .number) 41)
   unfolding leftOf leftBy ledger
@@ -141,7 +141,7 @@ unfolding ledger bookedBy allOf allBy leftOf leftBy booking
 none-left-in begun z = refl
 none-left-in (opens {sessions = sessions} r v q) z = none-left-in r (omega arith) ∙ sym (append-nil (allOf sessions))
 none-left-in (books {o = o} {s = s} {earlier = earlier} r e) z =
-    let a = step byPriority (o .session) e in
+    let a = step byRank (o .session) e in
     let new = booksOf (s .setup) (heard e a) (s .calls) in
     whole (eqb (number (a .said)) 0) (ledger (s ∷ earlier)) new (booksEvent (s .setup) o (s .calls) (session r) e .idle) (omega arith)
     ∙ ap (λ (l : List Item). l ++ new) (none-left-in r (omega arith))

@@ -14,7 +14,7 @@ use Rattle.rules.specs.declared.Setup.{Setup}
 use Rattle.rules.specs.declared.Event.{Event}
 use Rattle.rules.specs.declared.Answer.{Answer}
 use Rattle.rules.specs.Answers.{number}
-use Rattle.rules.specs.Ranking.{byPriority}
+use Rattle.rules.specs.Ranking.{byRank}
 use Rattle.rules.specs.Setup.{setupNumber, sameSetup, fresh}
 use Rattle.rules.specs.Events.{step}
 use Rattle.rules.specs.History.{Call, heard}
@@ -42,7 +42,7 @@ use Rattle.report.proofs.Laws.Events.{Underway, Books, books as booksEv
 fresh-underway : (v : Setup) → setupNumber v ≡ 0 → Underway v (opened (fresh v)) []
 unfolding hadWaited
 fresh-underway v good = record {
-  starts = fresh-starts byPriority v good;
+  starts = fresh-starts byRank v good;
   run = startsRun;
   size = length-replicate 64 false;
   waited = λ i l. getD-replicate 64 i false false l;
@@ -78,7 +78,7 @@ module _ (start : List ℕ) (t : Tally) (row : List ℕ) (o : OpenSession) (s : 
   calls = s .calls
 
   abbrev a : Answer
-  a = step byPriority (o .session) e
+  a = step byRank (o .session) e
 
   abbrev booked : List Item
   booked = ledger (s ∷ earlier)
@@ -144,7 +144,7 @@ row-is u start t row o sessions r = holds r .row-is
 pub left-out : LeftOut
 unfolding booking bookNumber
 left-out u start t row o s earlier r e =
-    let n = number (step byPriority (o .session) e .said) in
+    let n = number (step byRank (o .session) e .said) in
     ap (λ (f : Bool). cond (eqb n 0) (cond f 0 41) n) (tried start t row o s earlier (session r) (holds r) e)
 
 -- the waits that the figures have, of all tasks, are as many as are booked
@@ -201,7 +201,7 @@ unfolding booking
 none-taken begun q = refl
 none-taken (opens {t = t} r v z) q = absurd (false≢true (sym q ∙ ap (λ (x : WithOpened). x .tally .taken) (opening-is t v z)))
 none-taken (books {t = t} {o = o} r e) q =
-    absurd (cons≢nil (none-taken r (sym (taken-kept t (eqb (bookNumber t o e) 0) (entered (t .figures) (items o e (step byPriority (o .session) e)))) ∙ q)))
+    absurd (cons≢nil (none-taken r (sym (taken-kept t (eqb (bookNumber t o e) 0) (entered (t .figures) (items o e (step byRank (o .session) e)))) ∙ q)))
 
 setups : {u : Setup} {start : List ℕ} {t : Tally} {row : List ℕ} {o : OpenSession} {sessions : List Sitting} → Reported u start t row o sessions
     → allSame (t .setup) sessions ≡ true
@@ -216,7 +216,7 @@ setups (opens {t = t} {sessions = sessions} r v z) =
     earlier-same false q same = ap (λ (xs : List Sitting). allSame v xs) (none-taken r q)
 setups (books {t = t} {o = o} {s = s} {earlier = earlier} r e) =
     ap (λ (u : Setup). sameSetup u (s .setup) && allSame u earlier)
-    (setup-kept t (eqb (bookNumber t o e) 0) (entered (t .figures) (items o e (step byPriority (o .session) e))))
+    (setup-kept t (eqb (bookNumber t o e) 0) (entered (t .figures) (items o e (step byRank (o .session) e))))
     ∙ setups r
 
 pub one-setup : OneSetup

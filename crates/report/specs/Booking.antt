@@ -16,7 +16,7 @@ use Rattle.rules.specs.declared.Admission.{Admission}
 use Rattle.rules.specs.declared.Admissions.{Admissions}
 use Rattle.rules.specs.declared.Answer.{Answer}
 use Rattle.rules.specs.Answers.{isWait, number}
-use Rattle.rules.specs.Ranking.{byPriority}
+use Rattle.rules.specs.Ranking.{byRank}
 use Rattle.rules.specs.Tasks.{noTerms, noTask}
 use Rattle.rules.specs.Setup.{setupNumber, sameSetup, fresh, noSession}
 use Rattle.rules.specs.Scan.{noAdmission}
@@ -31,7 +31,7 @@ use Rattle.report.specs.Items.{Item, commit, wait, noFigures, entered, e
 
 -- a setup that names nothing
 abbrev pub noSetup : Setup
-noSetup = record { m = 0; n = 0; terms = replicate 64 noTerms }
+noSetup = record { m = 0; n = 0; mode = 0; terms = replicate 64 noTerms }
 
 -- a tally into which nothing has been booked; the setup in it is not looked at
 unfoldable pub emptyTally : Setup → Tally
@@ -39,7 +39,7 @@ emptyTally u = record { taken = false; setup = u; figures = replicate 64 noFigur
 
 -- ---- opening a session
 
--- 10 to 13 as for any setup; then '40, setups differ, tried before any event'
+-- 10 to 14 as for any setup; then '40, setups differ, tried before any event'
 unfoldable pub openNumber : Tally → Setup → ℕ
 unfolding setupNumber sameSetup
 openNumber t u = cond (eqb (setupNumber u) 0) (cond (t .taken && not (sameSetup (t .setup) u)) 40 0) (setupNumber u)
@@ -98,9 +98,9 @@ abbrev pub entryNumber : List Figures → ℕ → List Item → ℕ
 entryNumber all refusal new = cond (eqb refusal 0) (cond (enterable all new) 0 41) refusal
 
 unfoldable pub bookNumber : Tally → OpenSession → Event → ℕ
-unfolding step byPriority items enterable
+unfolding step byRank items enterable
 bookNumber t o e =
-    let a = step byPriority (o .session) e in
+    let a = step byRank (o .session) e in
     entryNumber (t .figures) (number (a .said)) (items o e a)
 
 abbrev pub withFigures : Tally → List Figures → Tally
@@ -108,9 +108,9 @@ withFigures t figures = record { taken = t .taken; setup = t .setup; figures = f
 
 -- 'a refused event books nothing'; 'on both the tally and the row are unchanged'. The manager's session goes on after a 41.
 unfoldable pub booking : Tally → OpenSession → Event → WithBooked
-unfolding step byPriority bookNumber items entered
+unfolding step byRank bookNumber items entered
 booking t o e =
-    let a = step byPriority (o .session) e in
+    let a = step byRank (o .session) e in
     record {
       tally = cond (eqb (bookNumber t o e) 0) (withFigures t (entered (t .figures) (items o e a))) t;
       booked = record {
@@ -123,7 +123,7 @@ booking t o e =
 
 -- the row lent beside it
 unfoldable pub rowAfter : Tally → OpenSession → Event → List ℕ → List ℕ
-unfolding step byPriority bookNumber items waitsBooked waitsIn written
+unfolding step byRank bookNumber items waitsBooked waitsIn written
 rowAfter t o e row =
-    let a = step byPriority (o .session) e in
+    let a = step byRank (o .session) e in
     cond (eqb (bookNumber t o e) 0) (written row (waitsBooked (t .figures)) (waitsIn (items o e a))) row

@@ -8,7 +8,7 @@ use lib.Dec.{eqb}
 use lib.ListN.{length, drop}
 use Rattle.objects.specs.Below.{one, all}
 use Rattle.rules.specs.declared.Setup.{Setup}
-use Rattle.rules.specs.Ranking.{byPriority}
+use Rattle.rules.specs.Ranking.{byRank}
 use Rattle.rules.specs.Setup.{sameSetup, fresh}
 use Rattle.rules.specs.Answers.{isWait}
 use Rattle.rules.specs.History.{Call, accepted, isCommit, releases, began, lasted, waitLength, passed, retried}
@@ -31,11 +31,11 @@ commitsOf c before =
 
 -- the wait of task i that the last call ends, in a session from this setup: its ticks, its clash count and its retry count
 abbrev pub waitBy : Setup → ℕ → List Call → Item
-waitBy u i calls = wait i (waitLength i calls) (passed i calls) (retried byPriority (fresh u) i calls)
+waitBy u i calls = wait i (waitLength i calls) (passed i calls) (retried byRank (fresh u) i calls)
 
 -- 'A wait and its retries are booked when the task is admitted': of each task that the last call admits
 unfoldable pub waitsOf : Setup → List ℕ → List Call → List Item
-unfolding began lasted passed retried byPriority fresh
+unfolding began lasted passed retried byRank fresh
 waitsOf u [] calls = []
 waitsOf u (i ∷ more) calls = waitBy u i calls ∷ waitsOf u more calls
 

@@ -32,7 +32,7 @@ fn open_with(s: Session) -> OpenSession
     }
 }
 
-// 10 to 13 as for any setup, then 40 where it differs from the one taken before.
+// 10 to 14 as for any setup, then 40 where it differs from the one taken before.
 fn open_number(t: Tally, u: Setup) -> u8
     ensures { λ x. ⌜ x ≡ openNumber t u ⌝ }
 {

@@ -18,6 +18,7 @@ fn no_setup() -> Setup
     Setup {
         m: 0,
         n: 0,
+        mode: 0,
         terms: [none; 64],
     }
 }

@@ -42,6 +42,7 @@ fn session_setup(m: u8) -> Setup {
     Setup {
         m: m,
         n: 3,
+        mode: 0,
         terms: terms,
     }
 }

@@ -21,7 +21,7 @@ use Rattle.rules.specs.declared.Said.{Said}
 use Rattle.rules.specs.declared.Admission.{Admission}
 use Rattle.rules.specs.declared.Answer.{Answer}
 use Rattle.rules.specs.Answers.{isWait, number}
-use Rattle.rules.specs.Ranking.{Ranking, byPriority, Strict, Stays}
+use Rattle.rules.specs.Ranking.{Ranking, byRank, Strict, Stays}
 use Rattle.rules.specs.Tasks.{isWaiting, taskAt, stateAt}
 use Rattle.rules.specs.Setup.{fresh}
 use Rattle.rules.specs.Room.{ran}
@@ -29,7 +29,7 @@ use Rattle.rules.specs.Events.{raisedState, raisedTask, step}
 use Rattle.rules.specs.Scan.{noAdmission, admission, Scanned}
 use Rattle.rules.specs.History.{Call, heard, tasksOf, isCommit, isRelease, began, lasted, waitLength}
 use Rattle.rules.specs.Demand3.{Start, Run, called, AdmissionsCount, Told}
-use Rattle.rules.proofs.Ranking.{priority-strict}
+use Rattle.rules.proofs.Ranking.{rank-strict-and-stays}
 use Rattle.rules.proofs.Laws.Alike.{at-or-other}
 use Rattle.rules.proofs.Laws.Looks.{scan-lasts}
 use Rattle.rules.proofs.Laws.Listed.{Settled}
@@ -73,7 +73,7 @@ raised-ticks hadRun t true tick = go (t .state)
     go Executing = refl
 raised-ticks hadRun t false tick = refl
 
-own-ticks : {t u : Task} {e : Event} {said : Said} → Own t e said u → ticksOf (u .state) (e .tick) ≡ ticksOf (t .state) (e .tick)
+own-ticks : {mode : ℕ} {t u : Task} {e : Event} {said : Said} → Own mode t e said u → ticksOf (u .state) (e .tick) ≡ ticksOf (t .state) (e .tick)
 own-ticks {e = e} (arrives kind was late) = ap (λ (x : State). ticksOf x (e .tick)) (sym was)
 own-ticks {e = e} (runs kind was) = ap (λ (x : State). ticksOf x (e .tick)) (sym was)
 own-ticks {e = e} (waits kind was b k h) = sub-self (e .tick) ∙ ap (λ (x : State). ticksOf x (e .tick)) (sym was)
@@ -101,8 +101,8 @@ told-ticks start s calls i p = go (stateAt s i) refl
 
 -- ---- an accepted event
 
-module _ (s : Session) (e : Event) (a : Answer) (s₁ : Session) (moved : Moved byPriority s e (a .said) s₁) (settled : Settled s₁ (a .admitted) (a .session))
-    (u : Setup) (calls : List Call) (known : Known byPriority (fresh u) s calls) (counts : AdmissionsCount byPriority (fresh u) e a calls)
+module _ (s : Session) (e : Event) (a : Answer) (s₁ : Session) (moved : Moved byRank s e (a .said) s₁) (settled : Settled s₁ (a .admitted) (a .session))
+    (u : Setup) (calls : List Call) (known : Known byRank (fresh u) s calls) (counts : AdmissionsCount byRank (fresh u) e a calls)
     (fits : a .admitted .count ≤ length (a .admitted .list)) where
   abbrev c : Call
   c = heard e a
@@ -117,8 +117,8 @@ module _ (s : Session) (e : Event) (a : Answer) (s₁ : Session) (moved : Moved 
   unfolding began lasted
   ticks-at k l =
       let i = at k .task in
-      let follows = moved-known byPriority (priority-strict .1) s e a s₁ moved settled (fresh u) calls known i (below k l) in
-      sym (moved-ticks byPriority s e (a .said) s₁ moved i (below k l)) ∙ ap (ticksOf (stateAt s₁ i)) (sym (moved .tick-now))
+      let follows = moved-known byRank (rank-strict-and-stays .1) s e a s₁ moved settled (fresh u) calls known i (below k l) in
+      sym (moved-ticks byRank s e (a .said) s₁ moved i (below k l)) ∙ ap (ticksOf (stateAt s₁ i)) (sym (moved .tick-now))
       ∙ told-ticks (fresh u) s₁ _ i (follows .told) (settled .entries k l .1)
 
   waits-listed : (k : ℕ) → k ≤ a .admitted .count
@@ -140,8 +140,8 @@ module _ (s : Session) (e : Event) (a : Answer) (s₁ : Session) (moved : Moved 
 
 -- an open session, with its setup and its calls: they are a run from it, and what is kept of each task's last release is what history says
 pub record Underway (u : Setup) (o : OpenSession) (calls : List Call) : Type 0 where
-  pub starts : Start byPriority (fresh u)
-  pub run : Run byPriority (fresh u) (o .session) calls
+  pub starts : Start byRank (fresh u)
+  pub run : Run byRank (fresh u) (o .session) calls
   pub size : length (o .waited) ≡ 64
   pub waited : (i : ℕ) → i < 64 → getD (o .waited) i false ≡ hadWaited i calls
 
@@ -156,27 +156,27 @@ module _ (u : Setup) (o : OpenSession) (calls : List Call) (p : Underway u o cal
   s = o .session
 
   abbrev answer : Answer
-  answer = step byPriority s e
+  answer = step byRank s e
 
   pub books : Books u o calls e answer
   unfolding items booksOf commitsOf waitsOf waitItems tasksOf
-  books = go answer (taken byPriority strict stays s e (known .sound)) (admitted-counted byPriority strict stays (fresh u) s calls (p .starts) (p .run) e)
-      (omega (arith, list-size byPriority s e, admitted-few byPriority s e, known .sound .m-high))
+  books = go answer (taken byRank strict stays s e (known .sound)) (admitted-counted byRank strict stays (fresh u) s calls (p .starts) (p .run) e)
+      (omega (arith, list-size byRank s e, admitted-few byRank s e, known .sound .m-high))
     where
-      strict : Strict byPriority
-      strict = priority-strict .0
+      strict : Strict byRank
+      strict = rank-strict-and-stays .0
 
-      stays : Stays byPriority
-      stays = priority-strict .1
+      stays : Stays byRank
+      stays = rank-strict-and-stays .1
 
-      known : Known byPriority (fresh u) s calls
-      known = run-known byPriority strict stays (fresh u) s calls (p .starts) (p .run)
+      known : Known byRank (fresh u) s calls
+      known = run-known byRank strict stays (fresh u) s calls (p .starts) (p .run)
 
       committing : (b : Bool) → e .task < 64 → Numbered (cond b (commit (e .task) (hadWaited (e .task) calls) ∷ []) [])
       committing true l = more l none
       committing false l = none
 
-      go : (a : Answer) → Taken byPriority s e a → AdmissionsCount byPriority (fresh u) e a calls → a .admitted .count ≤ length (a .admitted .list)
+      go : (a : Answer) → Taken byRank s e a → AdmissionsCount byRank (fresh u) e a calls → a .admitted .count ≤ length (a .admitted .list)
           → Books u o calls e a
       go a (refuses k given) counts fits = record {
         same = rw (ne-eqb k 0 given);

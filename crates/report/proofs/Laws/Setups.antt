@@ -41,12 +41,14 @@ terms-euclid t v w e f =
 setups-made : (u v : Setup) → Same u v → sameSetup u v ≡ true
 unfolding sameSetup
 setups-made u v p =
-    and-both (eqb (u .m) (v .m) && eqb (u .n) (v .n)) (all (u .n) (λ i. sameTerms (termsAt u i) (termsAt v i)))
+    and-both (eqb (u .m) (v .m) && eqb (u .n) (v .n) && eqb (u .mode) (v .mode)) (all (u .n) (λ i. sameTerms (termsAt u i) (termsAt v i)))
+    (and-both (eqb (u .m) (v .m) && eqb (u .n) (v .n)) (eqb (u .mode) (v .mode))
     (and-both (eqb (u .m) (v .m)) (eqb (u .n) (v .n)) (eq-eqb (u .m) (v .m) (p .m)) (eq-eqb (u .n) (v .n) (p .n)))
+    (eq-eqb (u .mode) (v .mode) (p .mode)))
     (all-from (u .n) (λ i. sameTerms (termsAt u i) (termsAt v i)) (p .terms))
 
 pub same-self : (u : Setup) → sameSetup u u ≡ true
-same-self u = setups-made u u (record { m = refl; n = refl; terms = λ i l. terms-made (termsAt u i) (termsAt u i) refl refl refl })
+same-self u = setups-made u u (record { m = refl; n = refl; mode = refl; terms = λ i l. terms-made (termsAt u i) (termsAt u i) refl refl refl })
 
 same-euclid : (u v w : Setup) → sameSetup u v ≡ true → sameSetup u w ≡ true → sameSetup v w ≡ true
 same-euclid u v w e f =
@@ -55,6 +57,7 @@ same-euclid u v w e f =
     setups-made v w (record {
       m = sym (p .m) ∙ q .m;
       n = sym (p .n) ∙ q .n;
+      mode = sym (p .mode) ∙ q .mode;
       terms = λ i l.
           let below : i < u .n = subst (λ (k : ℕ). i < k) (sym (p .n)) l in
           terms-euclid (termsAt u i) (termsAt v i) (termsAt w i) (p .terms i below) (q .terms i below);

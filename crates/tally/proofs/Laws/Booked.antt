@@ -15,7 +15,7 @@ use Rattle.rules.specs.declared.Admission.{Admission}
 use Rattle.rules.specs.declared.Admissions.{Admissions}
 use Rattle.rules.specs.declared.Answer.{Answer}
 use Rattle.rules.specs.Answers.{number}
-use Rattle.rules.specs.Ranking.{byPriority}
+use Rattle.rules.specs.Ranking.{byRank}
 use Rattle.rules.specs.Scan.{noAdmission}
 use Rattle.rules.specs.Events.{step}
 use Rattle.rules.specs.History.{isCommit}
@@ -53,7 +53,7 @@ items-listed n list waited tasks e said admitted tick commits task had count eac
 
 module _ (t : Tally) (o : OpenSession) (e : Event) where
   abbrev pub answer : Answer
-  answer = step byPriority (o .session) e
+  answer = step byRank (o .session) e
 
   -- what a function answers that has these parts
   abbrev pub made : Tally → ℕ → WithBooked

@@ -8,7 +8,7 @@ use lib.ListN.{getD}
 use borrow.Author.Needs.{needs}
 use Rattle.rules.specs.declared.Answer.{Answer}
 use Rattle.rules.specs.Answers.{number}
-use Rattle.rules.specs.Ranking.{byPriority}
+use Rattle.rules.specs.Ranking.{byRank}
 use Rattle.tally.specs.declared.Noted.{Noted}
 use Rattle.tally.specs.declared.WithEntered.{WithEntered}
 use Rattle.tally.specs.Listed.{listedItems}
@@ -21,7 +21,7 @@ use Rattle.tally.proofs.by_value.booking.Tie as tie
 inside : (c : tie.After-step) → Within (c .before .before .before .before .args .e .task) (c .step .result)
 inside c =
     let a = c .before .before .before .before .args in
-    subst (Within (a .e .task)) (sym (c .step .ensures)) (answer-inside byPriority (a .o .session) (a .e))
+    subst (Within (a .e .task)) (sym (c .step .ensures)) (answer-inside byRank (a .o .session) (a .e))
 
 -- and it is no refusal
 is-accepted : (c : tie.Else1) → number (c .before .before .before .before .before .step .result .said) ≡ 0

@@ -1,4 +1,5 @@
 // The writers: no room, bad values, and each kind written, read and written again.
+use crate::modes::in_mode;
 use crate::print;
 use log::Found;
 use rules::Event;
@@ -27,6 +28,7 @@ fn setup(m: u8, n: u8, priority: u16, period: u32) -> Setup {
     Setup {
         m: m,
         n: n,
+        mode: 0,
         terms: [Terms {
             priority: priority,
             period: period,
@@ -35,11 +37,12 @@ fn setup(m: u8, n: u8, priority: u16, period: u32) -> Setup {
     }
 }
 
-// 10 to 13 come before 28, and no byte is changed.
+// 10 to 14 come before 28, and no byte is changed.
 pub(crate) fn bad_setups() {
     let mut buf = [7u8; 4];
     print::wrote(writing::write_setup(&mut buf, 0, setup(0, 1, 1, 1)));
     print::wrote(writing::write_setup(&mut buf, 0, setup(1, 65, 1, 1)));
+    print::wrote(writing::write_mode_setup(&mut buf, 0, in_mode(2, setup(1, 1, 0, 1))));
     print::wrote(writing::write_setup(&mut buf, 0, setup(1, 1, 0, 1)));
     print::wrote(writing::write_setup(&mut buf, 0, setup(1, 1, 1, 0)));
     print::wrote(writing::write_setup(&mut buf, 0, setup(1, 1, 1, 1)));
@@ -76,20 +79,43 @@ fn event_back(kind: Kind) {
     print::same(same(&buf, &again));
 }
 
-fn setup_back() {
+// A setup in the lowest kind that can say it, which is 1 where its mode is 0.
+fn setup_back(mode: u8) {
     let mut buf = [0u8; 80];
     let mut again = [0u8; 80];
-    let u = setup(2, 3, 513, 86400000);
+    let u = in_mode(mode, setup(2, 3, 513, 86400000));
     print::wrote(writing::write_setup(&mut buf, 1, u));
-    print::found(log::read(&buf, 1));
-    let back = log::setup_of(log::body(&buf, 1));
+    let found = log::read(&buf, 1);
+    print::found(found);
+    let Found::Record {
+        kind,
+        start: _,
+        next: _,
+    } = found
+    else {
+        return;
+    };
+    let back = log::setup_of(kind, log::body(&buf, 1));
     print::same(setup::same_setup(u, back));
     print::wrote(writing::write_setup(&mut again, 1, back));
     print::same(same(&buf, &again));
 }
 
+// One of mode 0 in kind 7: it is the same setup as in kind 1, and not the same in mode 1.
+fn mode_setup_back() {
+    let mut buf = [0u8; 80];
+    let u = setup(2, 3, 513, 86400000);
+    print::wrote(writing::write_mode_setup(&mut buf, 1, u));
+    print::found(log::read(&buf, 1));
+    let back = log::setup_of(7, log::body(&buf, 1));
+    print::same(setup::same_setup(u, back));
+    print::same(setup::same_setup(in_mode(1, u), back));
+}
+
 pub(crate) fn each_kind() {
-    setup_back();
+    setup_back(0);
+    setup_back(1);
+    mode_setup_back();
     event_back(Kind::Arrive);
     event_back(Kind::Release);
     event_back(Kind::Commit);

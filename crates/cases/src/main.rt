@@ -1,7 +1,8 @@
-// Document 01's worked cases, one of request 2, each refusal from 1 to 28, how near the sum a clash count comes, and each kind of record there and back.
+// Document 01's worked cases, one of request 2 and one of request 5, each refusal from 1 to 28, how near the sum a clash count comes, and each kind of record there and back.
 //
 // The whole session and the first item under 'Easy to get wrong' are printed as 01 has them; with each refusal it is seen that the session stays.
 mod back;
+mod modes;
 mod near;
 mod print;
 mod records;
@@ -13,7 +14,7 @@ use rules::Session;
 use rules::Setup;
 use rules::Terms;
 
-// A setup of four tasks, or of the first n of them.
+// A setup of four tasks, or of the first n of them, by fixed priority.
 pub(crate) fn setup_of(m: u8, n: u8, a: Terms, b: Terms, c: Terms, d: Terms) -> Setup {
     let mut terms = [Terms {
         priority: 0,
@@ -27,6 +28,7 @@ pub(crate) fn setup_of(m: u8, n: u8, a: Terms, b: Terms, c: Terms, d: Terms) -> 
     Setup {
         m: m,
         n: n,
+        mode: 0,
         terms: terms,
     }
 }
@@ -204,6 +206,8 @@ fn bad_setups(a: Terms, b: Terms) {
     bad_setup(setup_of(17, 2, a, b, none, none));
     bad_setup(setup_of(1, 0, a, b, none, none));
     bad_setup(setup_of(1, 65, a, b, none, none));
+    bad_setup(modes::in_mode(2, setup_of(1, 65, a, b, none, none)));
+    bad_setup(modes::in_mode(2, setup_of(1, 3, a, b, none, none)));
     bad_setup(setup_of(1, 3, a, b, none, none));
     bad_setup(setup_of(1, 2, a, terms_of(20, 86400001, 1), none, none));
     bad_setup(setup_of(1, 2, terms_of(10, 0, 1), none, none, none));
@@ -213,6 +217,7 @@ fn main() {
     whole_session();
     deferred_release_scans();
     ran_and_did_not();
+    modes::both_modes();
     let none = terms_of(0, 0, 0);
     let a = terms_of(10, 100, 1);
     let b = terms_of(20, 50, 1);
@@ -224,6 +229,7 @@ fn main() {
     near::both_ends();
     near::three_tasks();
     records::records();
+    records::mode_records();
     records::logs();
     records::full_log();
     back::no_room();

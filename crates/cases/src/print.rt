@@ -106,7 +106,7 @@ pub(crate) fn found(found: Found) {
 
 pub(crate) fn step(step: Step) {
     match step {
-        Step::Setup(_) => text(b"setup"),
+        Step::Setup { kind: _, next: _ } => text(b"setup"),
         Step::Event {
             kind: _,
             start: _,

@@ -16,7 +16,7 @@ fn whole(bytes: &[u8]) {
     print::text(b"\n");
 }
 
-// One record, tried in order: 27, 20, 21, 20, 22, 23, 10 to 13.
+// One record, tried in order: 27, 20, 21, 20, 22, 23, 10 to 14.
 pub(crate) fn records() {
     read(b"", 0);
     read(b"\x04\x00\x06\x00\x00\x00\x00\x00", 8);
@@ -24,7 +24,7 @@ pub(crate) fn records() {
     read(b"\x00", 0);
     read(b"\x00\x00\x02", 0);
     read(b"\x00\x00\x00\x00", 0);
-    read(b"\x00\x00\x07\x00", 0);
+    read(b"\x00\x00\x08\x00", 0);
     read(b"\xff\xff\xff\xff", 0);
     read(b"\x05\x00\x02\x00", 0);
     read(b"\x05\x00\x02\x00\x00\x00\x00\x00", 0);
@@ -53,6 +53,28 @@ pub(crate) fn records() {
     );
     read(b"\x05\x00\x04\x00\x07\x00\x00\x00\x03", 0);
     read(b"\x04\x00\x06\x00\x02\x00\x00\x00", 0);
+}
+
+// One of kind 7: under 3 bytes, of length 2 + 8n, with a spare byte beside mode 2, with no task and mode 2, with mode 2 beside priority 0, and a good one.
+pub(crate) fn mode_records() {
+    read(b"\x02\x00\x07\x00\x01\x00", 0);
+    read(
+        b"\x0a\x00\x07\x00\x01\x01\x01\x01\x00\x01\x00\x00\x00\x01",
+        0,
+    );
+    read(
+        b"\x0b\x00\x07\x00\x01\x01\x02\x01\x00\x01\x00\x00\x00\x01\x01",
+        0,
+    );
+    read(b"\x03\x00\x07\x00\x01\x00\x02", 0);
+    read(
+        b"\x0b\x00\x07\x00\x01\x01\x02\x00\x00\x01\x00\x00\x00\x01\x00",
+        0,
+    );
+    read(
+        b"\x0b\x00\x07\x00\x01\x01\x01\x01\x00\x01\x00\x00\x00\x01\x00",
+        0,
+    );
 }
 
 // Whole logs: 27, 24, 24, 25, 26, and two good ones.

@@ -67,11 +67,16 @@ fn same_task(a: Task, b: Task) -> bool {
     if !same_arrival(arrival, arrival_other) {
         return false;
     }
-    a.releases == b.releases
+    a.releases == b.releases && a.rank == b.rank
 }
 
 pub(crate) fn same_session(a: Session, b: Session) -> bool {
-    if a.m != b.m || a.n != b.n || a.tick != b.tick || a.accepted != b.accepted {
+    if a.m != b.m
+        || a.n != b.n
+        || a.mode != b.mode
+        || a.tick != b.tick
+        || a.accepted != b.accepted
+    {
         return false;
     }
     for i in 0..64 {

@@ -52,18 +52,6 @@ loop-again c = search needs
 loop2-holds : tie.Need-loop2-holds Inv-loop μ-loop Inv-loop2 μ-loop2
 loop2-holds c = search needs
 
-mul-if6 : tie.Need-mul-if6 Inv-loop μ-loop Inv-loop2 μ-loop2
-mul-if6 c = search needs
-
-element-copy-out-if6 : tie.Need-element-copy-out-if6 Inv-loop μ-loop Inv-loop2 μ-loop2
-element-copy-out-if6 c = search needs
-
-mul-if6-2 : tie.Need-mul-if6-2 Inv-loop μ-loop Inv-loop2 μ-loop2
-mul-if6-2 c = search needs
-
-element-copy-out-if6-2 : tie.Need-element-copy-out-if6-2 Inv-loop μ-loop Inv-loop2 μ-loop2
-element-copy-out-if6-2 c = search needs
-
 mul-if7 : tie.Need-mul-if7 Inv-loop μ-loop Inv-loop2 μ-loop2
 mul-if7 c = search needs
 
@@ -75,6 +63,18 @@ mul-if7-2 c = search needs
 
 element-copy-out-if7-2 : tie.Need-element-copy-out-if7-2 Inv-loop μ-loop Inv-loop2 μ-loop2
 element-copy-out-if7-2 c = search needs
+
+mul-if8 : tie.Need-mul-if8 Inv-loop μ-loop Inv-loop2 μ-loop2
+mul-if8 c = search needs
+
+element-copy-out-if8 : tie.Need-element-copy-out-if8 Inv-loop μ-loop Inv-loop2 μ-loop2
+element-copy-out-if8 c = search needs
+
+mul-if8-2 : tie.Need-mul-if8-2 Inv-loop μ-loop Inv-loop2 μ-loop2
+mul-if8-2 c = search needs
+
+element-copy-out-if8-2 : tie.Need-element-copy-out-if8-2 Inv-loop μ-loop Inv-loop2 μ-loop2
+element-copy-out-if8-2 c = search needs
 
 returns-3 : tie.Need-returns-3 Inv-loop μ-loop Inv-loop2 μ-loop2
 returns-3 c = search needs
@@ -111,14 +111,14 @@ same-session-spec =
     loop-less
     loop-again
     loop2-holds
-    mul-if6
-    element-copy-out-if6
-    mul-if6-2
-    element-copy-out-if6-2
     mul-if7
     element-copy-out-if7
     mul-if7-2
     element-copy-out-if7-2
+    mul-if8
+    element-copy-out-if8
+    mul-if8-2
+    element-copy-out-if8-2
     returns-3
     add-j
     loop2-less

@@ -1,4 +1,5 @@
-//! Times another replay program against this one, and its report beside it, on logs of a busy box.
+//! Times another replay program against this one, and its report beside it, on logs of a busy box
+//! in both modes.
 
 use std::ffi::OsString;
 use std::fs::{self, File};
@@ -11,17 +12,26 @@ use crate::damage::make;
 use crate::folder::Folder;
 use crate::lines::replay;
 use crate::other::cannot_start;
-use crate::random::Size;
-use crate::rules::Answer;
+use crate::random::Shape;
+use crate::rules::{Answer, DEADLINE, FIXED_PRIORITY};
 
 /// The boxes, as m and n.
 const BOXES: [(u8, u8); 3] = [(2, 4), (6, 16), (16, 64)];
+const MODES: [u8; 2] = [FIXED_PRIORITY, DEADLINE];
 /// The lengths of the logs, each with how many runs are made to find the quickest.
 const LENGTHS: [(u32, u32); 3] = [(10_000, 10), (100_000, 5), (1_000_000, 3)];
 const SEED: u64 = 1;
 
 /// A program and its words.
 type Program = [OsString];
+
+/// The programs: this one, as a replay and as a report, and the other two.
+struct Programs<'a> {
+    this: [OsString; 2],
+    this_report: [OsString; 2],
+    other: &'a Program,
+    other_report: &'a Program,
+}
 
 /// The least times for one log: of this replay, of the other, and of the other report.
 struct Times {
@@ -37,43 +47,87 @@ pub fn bench(replay: &OsString, report: &OsString, out: &mut impl Write) -> io::
     let own = |name: &str| -> io::Result<[OsString; 2]> {
         Ok([std::env::current_exe()?.into_os_string(), name.into()])
     };
-    let (this, this_report) = (own("replay")?, own("report")?);
-    let (other, other_report) = (std::slice::from_ref(replay), std::slice::from_ref(report));
-    let folder = Folder::new("bench")?;
+    let programs = Programs {
+        this: own("replay")?,
+        this_report: own("report")?,
+        other: std::slice::from_ref(replay),
+        other_report: std::slice::from_ref(report),
+    };
     let mut growth = Vec::new();
-    let columns = "  m  n    events  accepted  waited  this ev/s  other ev/s  other/this";
+    let columns = "  m  n  mode    events  accepted  waited  this ev/s  other ev/s  other/this";
     writeln!(out, "{columns}  report ev/s  report's time/replay's")?;
     for (m, n) in BOXES {
-        let mut all_times = Vec::new();
-        for (events, runs) in LENGTHS {
-            let size = Size::new(m, n, events);
-            let log = folder.path().join(format!("{m}-{n}-{events}"));
-            fs::write(&log, make(SEED, "busy", size).unwrap_or_default())?;
-            if lines_of(&this, &log)? != lines_of(other, &log)? {
-                writeln!(out, "m {m}, n {n}, {events} events: the lines differ")?;
+        for mode in MODES {
+            let shape = Shape::new(m, n, 0).in_mode(mode);
+            let Some(times) = programs.time_lengths(shape, out)? else {
                 return Ok(false);
-            }
-            if lines_of(&this_report, &log)? != lines_of(other_report, &log)? {
-                writeln!(out, "m {m}, n {n}, {events} events: the sheets differ")?;
-                return Ok(false);
-            }
-            let times = least_times(&this, other, other_report, &log, events, runs)?;
-            print_row(out, size, &Shares::of_log(&log)?, &times)?;
-            all_times.push(times);
+            };
+            growth.push((shape, times));
         }
-        growth.push((m, n, all_times));
     }
     writeln!(
         out,
         "The lines and the sheets of both programs are the same for all of these logs."
     )?;
-    for (m, n, times) in growth {
-        print_growth(out, m, n, &times)?;
+    for (shape, times) in growth {
+        print_growth(out, shape, &times)?;
     }
     Ok(true)
 }
 
-fn print_row(out: &mut impl Write, size: Size, shares: &Shares, times: &Times) -> io::Result<()> {
+/// A box in words.
+fn in_words(shape: Shape) -> String {
+    let Shape {
+        processors: m,
+        tasks: n,
+        mode,
+        ..
+    } = shape;
+    format!("m {m}, n {n}, mode {mode}")
+}
+
+impl Programs<'_> {
+    /// A row for a log of each length, and the times. Nothing if the programs differ.
+    fn time_lengths(&self, shape: Shape, out: &mut impl Write) -> io::Result<Option<Vec<Times>>> {
+        let folder = Folder::new("bench")?;
+        let log = folder.path().join("log");
+        let mut all_times = Vec::new();
+        for (events, runs) in LENGTHS {
+            let shape = Shape { events, ..shape };
+            fs::write(&log, make(SEED, "busy", shape).unwrap_or_default())?;
+            let lines = lines_of(&self.this, &log)? == lines_of(self.other, &log)?;
+            let sheets = lines_of(&self.this_report, &log)? == lines_of(self.other_report, &log)?;
+            if !(lines && sheets) {
+                let what = if lines { "sheets" } else { "lines" };
+                let shape = in_words(shape);
+                writeln!(out, "{shape}, {events} events: the {what} differ")?;
+                return Ok(None);
+            }
+            let times = self.least_times(&log, events, runs)?;
+            print_row(out, shape, &Shares::of_log(&log)?, &times)?;
+            all_times.push(times);
+        }
+        Ok(Some(all_times))
+    }
+
+    /// The quickest of several runs of each program, taken in turn.
+    fn least_times(&self, log: &Path, events: u32, runs: u32) -> io::Result<Times> {
+        let mut times = Times {
+            events,
+            this: Duration::MAX,
+            other: Duration::MAX,
+            report: Duration::MAX,
+        };
+        for _ in 0..runs {
+            times.this = times.this.min(time_of(&self.this, log)?);
+            times.other = times.other.min(time_of(self.other, log)?);
+            times.report = times.report.min(time_of(self.other_report, log)?);
+        }
+        Ok(times)
+    }
+}
+
+fn print_row(out: &mut impl Write, shape: Shape, shares: &Shares, times: &Times) -> io::Result<()> {
     let a_second = |time: Duration| f64::from(times.events) / time.as_secs_f64();
     let (this, other, report) = (
         a_second(times.this),
@@ -83,8 +137,8 @@ fn print_row(out: &mut impl Write, size: Size, shares: &Shares, times: &Times) -
     let (accepted, waited) = (shares.accepted(), shares.waited());
     write!(
         out,
-        "{:>3} {:>2} {:>9}",
-        size.processors, size.tasks, size.events
+        "{:>3} {:>2} {:>5} {:>9}",
+        shape.processors, shape.tasks, shape.mode, shape.events
     )?;
     write!(out, "  {accepted:>7.1}%  {waited:>5.1}%")?;
     write!(out, "  {this:>9.0}  {other:>10.0}  {:>10.2}", other / this)?;
@@ -93,43 +147,18 @@ fn print_row(out: &mut impl Write, size: Size, shares: &Shares, times: &Times) -
 }
 
 /// How the time grows from each length to the next, and from the first to the last.
-fn print_growth(out: &mut impl Write, m: u8, n: u8, times: &[Times]) -> io::Result<()> {
+fn print_growth(out: &mut impl Write, shape: Shape, times: &[Times]) -> io::Result<()> {
+    let shape = in_words(shape);
     let pairs = times.windows(2).map(|pair| (&pair[0], &pair[1]));
     let whole = times.first().zip(times.last());
     for (from, to) in pairs.chain(whole) {
         let this = to.this.as_secs_f64() / from.this.as_secs_f64();
         let other = to.other.as_secs_f64() / from.other.as_secs_f64();
         let (few, many) = (from.events, to.events);
-        write!(
-            out,
-            "m {m}, n {n}, from {few} to {many} events the time grows: "
-        )?;
+        write!(out, "{shape}, from {few} to {many} events the time grows: ")?;
         writeln!(out, "this x {this:.1}, other x {other:.1}")?;
     }
     Ok(())
-}
-
-/// The quickest of several runs of each program, taken in turn.
-fn least_times(
-    this: &Program,
-    other: &Program,
-    report: &Program,
-    log: &Path,
-    events: u32,
-    runs: u32,
-) -> io::Result<Times> {
-    let mut times = Times {
-        events,
-        this: Duration::MAX,
-        other: Duration::MAX,
-        report: Duration::MAX,
-    };
-    for _ in 0..runs {
-        times.this = times.this.min(time_of(this, log)?);
-        times.other = times.other.min(time_of(other, log)?);
-        times.report = times.report.min(time_of(report, log)?);
-    }
-    Ok(times)
 }
 
 /// The time of one run as a process of its own, which writes to nowhere.

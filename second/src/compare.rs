@@ -4,19 +4,20 @@ use std::ffi::{OsStr, OsString};
 use std::fs::{self, File};
 use std::io::{self, Write};
 
-use crate::damage::{make, DAMAGES};
+use crate::damage::{make, setup_bytes, DAMAGES};
 use crate::expected::{Expected, Given};
+use crate::first_records::{first_records, second_setups};
 use crate::folder::Folder;
 use crate::input::STANDARD_INPUT;
 use crate::lines::replay;
 use crate::log::{Fault, LogReader};
 use crate::log_counts::LogCounts;
 use crate::other::{first_difference, Feeding};
-use crate::random::Size;
-use crate::rules::Refusal;
+use crate::random::Shape;
+use crate::rules::{Refusal, DEADLINE, FIXED_PRIORITY};
 use crate::score::Score;
 use crate::text::{log_of_text, text_of_log, TextError};
-use crate::vectors::{BAD_TEXTS, COMMENTED_TEXT, SESSIONS, WHOLE_TEXT};
+use crate::vectors::{BAD_TEXTS, COMMENTED_TEXT, SESSIONS, WHOLE_IN_MODE_1_TEXT, WHOLE_TEXT};
 
 /// How many logs of each kind of damage there are.
 const DAMAGED_SEEDS: usize = 40;
@@ -43,6 +44,7 @@ pub fn compare(program: &[OsString], report: &mut impl Write) -> io::Result<bool
     };
     comparison.sessions()?;
     comparison.cuts()?;
+    comparison.bad_records()?;
     comparison.small_logs()?;
     comparison.large_logs()?;
     comparison.slow_logs()?;
@@ -82,30 +84,52 @@ impl<W: Write> Comparison<'_, W> {
         Ok(())
     }
 
-    /// The first session's log, cut at each of its bytes.
+    /// The first session's log, cut at each of its bytes; and in mode 1, at each of its setup's.
     fn cuts(&mut self) -> io::Result<()> {
         let log = log_of_text(SESSIONS[0].text.as_bytes()).unwrap_or_default();
         for length in 0..=log.len() {
             let name = format!("the first {length} bytes of {}", SESSIONS[0].name);
             self.log(&name, &log[..length], Feeding::AtOnce)?;
         }
+        let log = log_of_text(WHOLE_IN_MODE_1_TEXT.as_bytes()).unwrap_or_default();
+        for length in 0..=setup_bytes(&log) {
+            let name = format!("the first {length} bytes of it in mode 1");
+            self.log(&name, &log[..length], Feeding::AtOnce)?;
+        }
         Ok(())
     }
 
-    /// Small logs: every m with every n, many tasks admitted at once, one admitted by a release
-    /// that clashes with it, and every kind of damage.
+    /// First records that are no good setup, and second setups; this program is held to their
+    /// numbers first.
+    fn bad_records(&mut self) -> io::Result<()> {
+        for record in first_records().into_iter().chain(second_setups()) {
+            let fault = replay(&record.bytes[..], &mut io::sink(), |_, _, _| {})?;
+            let found = fault.and_then(|fault| fault.refusal());
+            self.score.book_bad(record.what, record.number, found)?;
+            self.log(record.what, &record.bytes, Feeding::AtOnce)?;
+        }
+        Ok(())
+    }
+
+    /// Small logs: every m with every n, one in three of mode 0 in kind 7; many tasks admitted at
+    /// once, one admitted by a release that clashes with it, and every kind of damage.
     fn small_logs(&mut self) -> io::Result<()> {
         for seed in 0..1024 {
-            self.made(seed, "good", Size::of_seed(seed), Feeding::AtOnce)?;
+            let shape = Shape::of_seed(seed);
+            let kind = match (shape.mode, seed % 3) {
+                (FIXED_PRIORITY, 0) => "kind-7",
+                _ => "good",
+            };
+            self.made(seed, kind, shape, Feeding::AtOnce)?;
         }
         for seed in (20_000..21_000).step_by(11) {
-            self.made(seed, "flock", Size::of_seed(seed), Feeding::AtOnce)?;
+            self.made(seed, "flock", Shape::of_seed(seed), Feeding::AtOnce)?;
             let seed = seed + 20_000;
-            self.made(seed, "deferred", Size::of_seed(seed), Feeding::AtOnce)?;
+            self.made(seed, "deferred", Shape::of_seed(seed), Feeding::AtOnce)?;
         }
         for (kind, _) in DAMAGES {
             for seed in (10_000..).step_by(37).take(DAMAGED_SEEDS) {
-                self.made(seed, kind, Size::of_seed(seed), Feeding::AtOnce)?;
+                self.made(seed, kind, Shape::of_seed(seed), Feeding::AtOnce)?;
             }
         }
         Ok(())
@@ -114,42 +138,50 @@ impl<W: Write> Comparison<'_, W> {
     /// Large logs, the last of them with more events than a session accepts.
     fn large_logs(&mut self) -> io::Result<()> {
         for seed in 2000..2020 {
-            let Size {
-                processors, tasks, ..
-            } = Size::of_seed(31 * seed);
-            let size = Size::new(processors, tasks, 5000);
-            self.made(seed, "good", size, Feeding::AtOnce)?;
+            let shape = Shape {
+                events: 5000,
+                ..Shape::of_seed(31 * seed)
+            };
+            self.made(seed, "good", shape, Feeding::AtOnce)?;
         }
-        for (processors, tasks) in [(1, 3), (2, 4), (16, 64)] {
-            let size = Size::new(processors, tasks, 100_000);
-            self.made(3000, "good", size, Feeding::AtOnce)?;
-            self.made(3000, "busy", size, Feeding::AtOnce)?;
+        let modes = [(FIXED_PRIORITY, DEADLINE), (DEADLINE, FIXED_PRIORITY)];
+        let boxes = [(1, 3), (2, 4), (16, 64)];
+        for ((processors, tasks), (good, busy)) in boxes.into_iter().zip(modes.into_iter().cycle())
+        {
+            let shape = Shape::new(processors, tasks, 100_000);
+            self.made(3000, "good", shape.in_mode(good), Feeding::AtOnce)?;
+            self.made(3000, "busy", shape.in_mode(busy), Feeding::AtOnce)?;
         }
-        self.made(4000, "full", Size::new(2, 4, 200), Feeding::AtOnce)
+        let shape = Shape::new(2, 4, 200).in_mode(DEADLINE);
+        self.made(4000, "full", shape, Feeding::AtOnce)
     }
 
     /// Logs that come through a slow pipe, in pieces that end in the middle of records.
     fn slow_logs(&mut self) -> io::Result<()> {
         for (seed, bytes) in (5000..5060).zip([7, 1, 73, 3].into_iter().cycle()) {
-            let size = Size {
+            let shape = Shape {
                 events: 20,
-                ..Size::of_seed(31 * seed)
+                ..Shape::of_seed(31 * seed)
             };
             let kind = if seed % 3 == 0 { "flip" } else { "good" };
-            self.made(seed, kind, size, Feeding::InPieces(bytes))?;
+            self.made(seed, kind, shape, Feeding::InPieces(bytes))?;
         }
         Ok(())
     }
 
-    fn made(&mut self, seed: u64, kind: &str, size: Size, feeding: Feeding) -> io::Result<()> {
-        let Size {
+    fn made(&mut self, seed: u64, kind: &str, shape: Shape, feeding: Feeding) -> io::Result<()> {
+        let Shape {
             processors,
             tasks,
             events,
-        } = size;
-        let name = format!("make {seed} {kind} {events} {processors} {tasks}");
-        match make(seed, kind, size) {
-            Some(log) => self.log(&name, &log, feeding),
+            mode,
+        } = shape;
+        let name = format!("make {seed} {kind} {events} {processors} {tasks} {mode}");
+        match make(seed, kind, shape) {
+            Some(log) => {
+                self.counts.book_random_log(&log);
+                self.log(&name, &log, feeding)
+            }
             None => self.score.book(false, &format!("{name}: no such kind")),
         }
     }
@@ -157,8 +189,8 @@ impl<W: Write> Comparison<'_, W> {
     /// Compares the lines of both programs for one log, and tries its way to text and back.
     fn log(&mut self, name: &str, log: &[u8], feeding: Feeding) -> io::Result<()> {
         self.logs += 1;
-        if let Ok((setup, _)) = LogReader::open(log) {
-            self.counts.book_setup(&setup);
+        if let Ok((setup, events)) = LogReader::open(log) {
+            self.counts.book_setup(&setup, events.setup_kind());
         }
         let mut lines = Vec::new();
         let counts = &mut self.counts;

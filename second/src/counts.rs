@@ -3,6 +3,9 @@
 use std::collections::BTreeMap;
 use std::io::{self, Write};
 
+use crate::log::SETUP;
+use crate::rules::FIXED_PRIORITY;
+
 pub type Counts<K> = BTreeMap<K, u64>;
 
 pub fn add<K: Ord>(counts: &mut Counts<K>, key: K) {
@@ -32,6 +35,22 @@ pub fn above<K: Ord>(counts: &Counts<K>, key: K) -> u64 {
 /// The least count of the keys from 1 to `last`.
 pub fn least(counts: &Counts<usize>, last: usize) -> u64 {
     (1..=last).map(|key| count(counts, key)).min().unwrap_or(0)
+}
+
+/// What setups there are, by their kind and their mode.
+pub const SETUPS: [&str; 3] = [
+    "a setup of kind 1",
+    "a setup of kind 7 and mode 0",
+    "a setup of kind 7 and mode 1",
+];
+
+/// Which of these a setup of this kind and this mode is.
+pub fn setup_in_words(kind: u16, mode: u8) -> &'static str {
+    match (kind, mode) {
+        (SETUP, _) => SETUPS[0],
+        (_, FIXED_PRIORITY) => SETUPS[1],
+        _ => SETUPS[2],
+    }
 }
 
 /// A class of things that must come up: how often it did, and the least that will do.

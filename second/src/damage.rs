@@ -3,14 +3,18 @@
 // Every damage has the same form, also one that needs no more than a slice.
 #![allow(clippy::ptr_arg)]
 
-use crate::log::{write_record, END, HEAD, SETUP, TASK};
-use crate::random::{busy_log, deferred_log, flock_log, full_log, good_log, Random, Size};
+use crate::log::{before_tasks, write_record, HEAD, MODE_SETUP, SETUP, TASK};
+use crate::random::{busy_log, deferred_log, flock_log, full_log, good_log, Random, Shape};
+use crate::rules::FIXED_PRIORITY;
 
 /// One kind of damage: it changes the bytes of a good log.
 type Damage = fn(&mut Random, &mut Vec<u8>);
 
+/// Where the mode lies in a log whose setup is of kind 7.
+const MODE: usize = HEAD + 2;
+
 /// Every kind of damage, with the refusal it mostly leads to.
-pub const DAMAGES: [(&str, Damage); 23] = [
+pub const DAMAGES: [(&str, Damage); 24] = [
     ("cut", cut),                        // 20 or 27
     ("cut-record", cut_on_boundary),     // 27
     ("no-end", drop_end),                // 27
@@ -26,6 +30,7 @@ pub const DAMAGES: [(&str, Damage); 23] = [
     ("big-n-spare", big_setup_spare),    // 23, before 11
     ("bad-m", bad_processors),           // 10
     ("bad-n", bad_tasks),                // 11
+    ("bad-mode", bad_mode),              // 14
     ("bad-priority", bad_priority),      // 12
     ("bad-period", bad_period),          // 13
     ("bad-task", bad_tasks_both),        // 12 or 13
@@ -36,20 +41,25 @@ pub const DAMAGES: [(&str, Damage); 23] = [
     ("twice", two_damages),              // any
 ];
 
-/// A log of a kind: `good`, `busy`, `full`, `flock`, `deferred`, or a kind of damage. Nothing for
-/// an unknown kind.
-pub fn make(seed: u64, kind: &str, size: Size) -> Option<Vec<u8>> {
+/// A log of a kind: `good`, `kind-7`, which says mode 0 too, `busy`, `full`, `flock`, `deferred`,
+/// or a kind of damage. Nothing for an unknown kind.
+pub fn make(seed: u64, kind: &str, shape: Shape) -> Option<Vec<u8>> {
     let mut random = Random::new(seed);
     match kind {
-        "good" => return Some(good_log(&mut random, size)),
-        "busy" => return Some(busy_log(&mut random, size)),
-        "full" => return Some(full_log(&mut random, size)),
-        "flock" => return Some(flock_log(&mut random, size)),
-        "deferred" => return Some(deferred_log(&mut random, size)),
+        "good" => return Some(good_log(&mut random, shape)),
+        "kind-7" => {
+            let mut log = good_log(&mut random, shape);
+            say_mode(&mut log);
+            return Some(log);
+        }
+        "busy" => return Some(busy_log(&mut random, shape)),
+        "full" => return Some(full_log(&mut random, shape)),
+        "flock" => return Some(flock_log(&mut random, shape)),
+        "deferred" => return Some(deferred_log(&mut random, shape)),
         _ => {}
     }
     let (_, damage) = DAMAGES.iter().find(|(name, _)| *name == kind)?;
-    let mut log = good_log(&mut random, size);
+    let mut log = good_log(&mut random, shape);
     damage(&mut random, &mut log);
     Some(log)
 }
@@ -79,9 +89,33 @@ fn last_record(log: &[u8]) -> usize {
     record_starts(log).last().copied().unwrap_or(0)
 }
 
+/// The kind of the setup that this log begins with.
+fn setup_kind(log: &[u8]) -> u16 {
+    u16::from_le_bytes([log[2], log[3]])
+}
+
+/// The body of that setup up to its tasks.
+fn setup_start(log: &[u8]) -> &[u8] {
+    &log[HEAD..HEAD + before_tasks(setup_kind(log))]
+}
+
+/// How many bytes that setup has, its head included.
+pub fn setup_bytes(log: &[u8]) -> usize {
+    HEAD + setup_start(log).len() + TASK * usize::from(log[HEAD + 1])
+}
+
+/// Makes a setup of kind 1 one of kind 7 that says mode 0. One of kind 7 stays as it is.
+pub fn say_mode(log: &mut Vec<u8>) {
+    if setup_kind(log) == SETUP {
+        let mut body = log[HEAD..setup_bytes(log)].to_vec();
+        body.insert(MODE - HEAD, FIXED_PRIORITY);
+        replace_setup(log, MODE_SETUP, &body);
+    }
+}
+
 /// Where the setup's task lies: one of the n tasks of a good log.
 fn some_task(random: &mut Random, log: &[u8]) -> usize {
-    HEAD + 2 + TASK * random.below(usize::from(log[HEAD + 1]))
+    HEAD + setup_start(log).len() + TASK * random.below(usize::from(log[HEAD + 1]))
 }
 
 fn put(log: &mut [u8], place: usize, bytes: &[u8]) {
@@ -125,13 +159,13 @@ fn change_length(random: &mut Random, log: &mut Vec<u8>) {
 
 fn unknown_kind(random: &mut Random, log: &mut Vec<u8>) {
     let start = some_record(random, log);
-    let kind: u16 = random.pick(&[0, 7, 8, 255, 256, 258, 1024, 65_535]);
+    let kind: u16 = random.pick(&[0, 8, 9, 255, 256, 258, 263, 1024, 65_535]);
     put(log, start + 2, &kind.to_le_bytes());
 }
 
 fn known_kind(random: &mut Random, log: &mut Vec<u8>) {
     let start = some_record(random, log);
-    let kind = random.between(u32::from(SETUP), u32::from(END)) as u16;
+    let kind = random.between(u32::from(SETUP), u32::from(MODE_SETUP)) as u16;
     put(log, start + 2, &kind.to_le_bytes());
 }
 
@@ -142,7 +176,7 @@ fn unknown_at_cut(random: &mut Random, log: &mut Vec<u8>) {
     put(
         log,
         start + 2,
-        &random.pick(&[0, 7, 65_535u16]).to_le_bytes(),
+        &random.pick(&[0, 8, 65_535u16]).to_le_bytes(),
     );
 }
 
@@ -157,41 +191,47 @@ fn length_at_cut(random: &mut Random, log: &mut Vec<u8>) {
     );
 }
 
-/// A setup with a body too short for m and n, or for the tasks it names.
+/// A setup with a body too short for m, n and the mode, or for the tasks it names.
 fn short_setup(random: &mut Random, log: &mut Vec<u8>) {
-    let length = random.pick(&[0, 1, 2, 9]);
+    let kind = setup_kind(log);
+    let start = before_tasks(kind);
+    let length = random.pick(&[0, 1, 2, start, start + TASK - 1]);
     let body = log[HEAD..HEAD + length].to_vec();
     log.clear();
-    write_record(log, SETUP, &body);
+    write_record(log, kind, &body);
 }
 
+/// A spare byte; sometimes with a bad m too, or a bad mode where the setup says it.
 fn set_spare(random: &mut Random, log: &mut Vec<u8>) {
     let task = some_task(random, log);
     log[task + 7] = random.between(1, 255) as u8;
     if random.percent(30) {
         log[HEAD] = 0;
+    } else if setup_kind(log) == MODE_SETUP && random.percent(30) {
+        log[MODE] = 2;
     }
 }
 
 /// Far too many tasks, with the right length for them, and most times a spare byte set.
 fn big_setup_spare(random: &mut Random, log: &mut Vec<u8>) {
     let tasks = random.pick(&[65, 128, 200, 255]);
-    let mut body = vec![log[HEAD], tasks as u8];
+    let mut body = setup_start(log).to_vec();
+    body[1] = tasks as u8;
+    let first_task = body.len();
     for _ in 0..tasks {
         body.extend([1, 0, 1, 0, 0, 0, 1, 0]);
     }
     if random.percent(80) {
-        body[2 + TASK * random.below(tasks) + 7] = 1;
+        body[first_task + TASK * random.below(tasks) + 7] = 1;
     }
-    replace_setup(log, &body);
+    let kind = setup_kind(log);
+    replace_setup(log, kind, &body);
 }
 
-fn replace_setup(log: &mut Vec<u8>, body: &[u8]) {
-    let first_event = record_starts(log)[1];
+fn replace_setup(log: &mut Vec<u8>, kind: u16, body: &[u8]) {
     let mut changed = Vec::new();
-    write_record(&mut changed, SETUP, body);
-    changed.extend(&log[first_event..]);
-    *log = changed;
+    write_record(&mut changed, kind, body);
+    log.splice(..setup_bytes(log), changed);
 }
 
 fn bad_processors(random: &mut Random, log: &mut Vec<u8>) {
@@ -208,14 +248,29 @@ fn bad_tasks(random: &mut Random, log: &mut Vec<u8>) {
         log[HEAD + 1] = tasks;
         return;
     }
-    let mut body = vec![log[HEAD], tasks];
+    let mut body = setup_start(log).to_vec();
+    body[1] = tasks;
     for _ in 0..tasks {
         // Priority 0 here: 11 is tried before 12.
         body.extend([0; TASK]);
     }
-    replace_setup(log, &body);
+    let kind = setup_kind(log);
+    replace_setup(log, kind, &body);
     if random.percent(20) {
         log[HEAD] = 17;
+    }
+}
+
+/// A mode that nobody knows, in some logs with another fault, tried before it or after it.
+fn bad_mode(random: &mut Random, log: &mut Vec<u8>) {
+    say_mode(log);
+    log[MODE] = random.pick(&[2, 3, 128, 255]);
+    match random.below(8) {
+        0 => bad_processors(random, log),
+        1 => bad_tasks(random, log),
+        2 => bad_tasks_both(random, log),
+        3 => set_spare(random, log),
+        _ => {}
     }
 }
 
@@ -236,14 +291,17 @@ fn bad_tasks_both(random: &mut Random, log: &mut Vec<u8>) {
     bad_period(random, log);
 }
 
-/// A second setup somewhere; by itself it may be bad too, which is tried first.
+/// A second setup somewhere, of the same kind or of kind 7; by itself it may be bad too, which is
+/// tried first.
 fn second_setup(random: &mut Random, log: &mut Vec<u8>) {
     let starts = record_starts(log);
     let mut setup = log[..starts[1]].to_vec();
-    match random.below(6) {
+    match random.below(8) {
         0 => bad_priority(random, &mut setup),
         1 => set_spare(random, &mut setup),
         2 => setup[HEAD] = 0,
+        3 => bad_mode(random, &mut setup),
+        4 => say_mode(&mut setup),
         _ => {}
     }
     let place = random.pick(&starts);

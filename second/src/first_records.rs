@@ -1,9 +1,11 @@
-//! First records that are no good setup, each with the number that it must be refused with.
+//! Logs that go bad by their first record, which is no good setup, or by a second one, each with
+//! the number that it must be refused with.
 
-use crate::log::{write_record, ARRIVE, COMMIT, END, FINISH, RELEASE, SETUP, TASK};
+use crate::log::{before_tasks, write_record};
+use crate::log::{ARRIVE, COMMIT, END, FINISH, MODE_SETUP, RELEASE, SETUP, TASK};
 
 /// A bad beginning of a log.
-pub struct FirstRecord {
+pub struct BadRecord {
     pub what: &'static str,
     pub number: u8,
     pub bytes: Vec<u8>,
@@ -37,29 +39,50 @@ fn record_of_length(length: u16, kind: u16, body: &[u8]) -> Vec<u8> {
 
 /// 01's setup with some bytes of its body changed: each change is a place, and what stands there.
 fn changed(changes: &[(usize, &[u8])]) -> Vec<u8> {
+    record(SETUP, &changed_body(changes))
+}
+
+fn changed_body(changes: &[(usize, &[u8])]) -> [u8; 26] {
     let mut body = BODY;
     for (place, bytes) in changes {
         body[*place..place + bytes.len()].copy_from_slice(bytes);
     }
-    record(SETUP, &body)
+    body
 }
 
-/// Where this part of a task stands in the body of a setup.
+/// The same in kind 7, with this mode behind m and n.
+fn changed_in_mode(mode: u8, changes: &[(usize, &[u8])]) -> Vec<u8> {
+    record(MODE_SETUP, &with_mode(mode, &changed_body(changes)))
+}
+
+/// The body of a setup of kind 1 as one of kind 7.
+fn with_mode(mode: u8, body: &[u8]) -> Vec<u8> {
+    let mut body = body.to_vec();
+    body.insert(before_tasks(SETUP), mode);
+    body
+}
+
+/// Where this part of a task stands in the body of a setup of kind 1.
 fn place(task: usize, part: usize) -> usize {
-    2 + TASK * task + part
+    before_tasks(SETUP) + TASK * task + part
 }
 
 /// A setup of n tasks like this one, on m processors.
 fn setup(m: u8, n: u8, task: [u8; TASK]) -> Vec<u8> {
+    record(SETUP, &setup_body(m, n, task))
+}
+
+fn setup_body(m: u8, n: u8, task: [u8; TASK]) -> Vec<u8> {
     let mut body = vec![m, n];
     for _ in 0..n {
         body.extend(task);
     }
-    record(SETUP, &body)
+    body
 }
 
-/// All of them. Where two numbers could be given, the words name both, the first one first.
-pub fn first_records() -> Vec<FirstRecord> {
+/// All that go bad by their first record. Where two numbers could be given, the words name both,
+/// the first one first.
+pub fn first_records() -> Vec<BadRecord> {
     let parts = [
         kinds(),
         cut_off(),
@@ -69,13 +92,28 @@ pub fn first_records() -> Vec<FirstRecord> {
         bad_tasks(),
         places(),
     ];
-    let records = parts.into_iter().flatten();
-    let named = records.map(|(what, number, bytes)| FirstRecord {
+    let mut records: Vec<BadRecord> = parts.into_iter().flat_map(named).collect();
+    records.extend(mode_records());
+    records
+}
+
+/// Of these, the ones that bring in kind 7.
+pub fn mode_records() -> Vec<BadRecord> {
+    let parts = [mode_lengths(), modes(), mode_values()];
+    parts.into_iter().flat_map(named).collect()
+}
+
+/// All that go bad by a second setup.
+pub fn second_setups() -> Vec<BadRecord> {
+    named(seconds()).collect()
+}
+
+fn named(part: Part) -> impl Iterator<Item = BadRecord> {
+    part.into_iter().map(|(what, number, bytes)| BadRecord {
         what,
         number,
         bytes,
-    });
-    named.collect()
+    })
 }
 
 type Part = Vec<(&'static str, u8, Vec<u8>)>;
@@ -83,14 +121,15 @@ type Part = Vec<(&'static str, u8, Vec<u8>)>;
 fn kinds() -> Part {
     vec![
         ("kind 0", 21, record(0, &BODY)),
-        ("kind 7", 21, record(7, &BODY)),
+        ("kind 8", 21, record(8, &BODY)),
         ("kind 9", 21, record(9, &BODY)),
         ("kind 257", 21, record(257, &BODY)),
+        ("kind 263", 21, record(263, &with_mode(1, &BODY))),
         ("kind 65,535", 21, record(65_535, &BODY)),
         (
             "an unknown kind, and no body",
             21,
-            record_of_length(26, 7, &[]),
+            record_of_length(26, 8, &[]),
         ),
         ("kind 0 and nothing else", 21, vec![0, 0, 0, 0]),
     ]
@@ -260,6 +299,103 @@ fn places() -> Part {
             "an end first, and a setup after it",
             24,
             [end, good_setup].concat(),
+        ),
+    ]
+}
+
+fn mode_lengths() -> Part {
+    let body = with_mode(1, &BODY);
+    let bad = with_mode(2, &changed_body(&[(place(0, SPARE), &[1])]));
+    vec![
+        ("kind 7 without a body", 22, record(MODE_SETUP, &[])),
+        ("kind 7 with one byte", 22, record(MODE_SETUP, &body[..1])),
+        ("kind 7 with m and n", 22, record(MODE_SETUP, &body[..2])),
+        ("kind 7 with m and n 0", 22, record(MODE_SETUP, &[2, 0])),
+        ("kind 7 without tasks", 22, record(MODE_SETUP, &body[..3])),
+        ("kind 7 without a mode", 22, record(MODE_SETUP, &BODY)),
+        (
+            "kind 7 with a byte more",
+            22,
+            record(MODE_SETUP, &[&body[..], &[0]].concat()),
+        ),
+        (
+            "kind 7 with a wrong length, a spare byte and mode 2",
+            22,
+            record(MODE_SETUP, &bad[..26]),
+        ),
+        ("kind 1 with a mode", 22, record(SETUP, &body)),
+        (
+            "kind 7 with a byte too many in the length, cut off",
+            20,
+            record_of_length(28, MODE_SETUP, &body),
+        ),
+    ]
+}
+
+fn modes() -> Part {
+    let no_tasks = |mode| record(MODE_SETUP, &[2, 0, mode]);
+    let many_tasks = with_mode(255, &setup_body(2, 65, GOOD_TASK));
+    let priority = (place(0, PRIORITY), &[0u8, 0][..]);
+    let period = (place(0, PERIOD), &[0u8; 4][..]);
+    let spare = (place(2, SPARE), &[1u8][..]);
+    vec![
+        ("mode 2", 14, changed_in_mode(2, &[])),
+        ("mode 255", 14, changed_in_mode(255, &[])),
+        ("mode 2 and priority 0", 14, changed_in_mode(2, &[priority])),
+        ("mode 255 and period 0", 14, changed_in_mode(255, &[period])),
+        ("m 0 and mode 2", 10, changed_in_mode(2, &[(0, &[0])])),
+        ("n 0 and mode 2", 11, no_tasks(2)),
+        ("n 65 and mode 255", 11, record(MODE_SETUP, &many_tasks)),
+        ("a spare byte and mode 2", 23, changed_in_mode(2, &[spare])),
+    ]
+}
+
+/// What kind 1 is refused for, in kind 7.
+fn mode_values() -> Part {
+    let no_priority = |task| (place(task, PRIORITY), &[0u8, 0][..]);
+    let no_period = |task| (place(task, PERIOD), &[0u8; 4][..]);
+    let spare = (place(1, SPARE), &[1u8][..]);
+    let m = (0, &[17u8][..]);
+    vec![
+        ("m 17 in kind 7", 10, changed_in_mode(1, &[m])),
+        ("n 0 in kind 7", 11, record(MODE_SETUP, &[2, 0, 1])),
+        (
+            "priority 0 in mode 1",
+            12,
+            changed_in_mode(1, &[no_priority(2)]),
+        ),
+        (
+            "period 0, a later priority, in mode 0",
+            13,
+            changed_in_mode(0, &[no_period(1), no_priority(2)]),
+        ),
+        ("a spare byte in kind 7", 23, changed_in_mode(0, &[spare])),
+    ]
+}
+
+fn seconds() -> Part {
+    let kind_1 = record(SETUP, &BODY);
+    let kind_7 = changed_in_mode(1, &[]);
+    let after = |first: &[u8], second: &[u8]| [first, second].concat();
+    vec![
+        ("kind 1 behind kind 1", 24, after(&kind_1, &kind_1)),
+        ("kind 7 behind kind 1", 24, after(&kind_1, &kind_7)),
+        ("kind 1 behind kind 7", 24, after(&kind_7, &kind_1)),
+        ("kind 7 behind kind 7", 24, after(&kind_7, &kind_7)),
+        (
+            "mode 2 behind kind 1",
+            14,
+            after(&kind_1, &changed_in_mode(2, &[])),
+        ),
+        (
+            "a wrong length behind kind 7",
+            22,
+            after(&kind_7, &record(MODE_SETUP, &BODY)),
+        ),
+        (
+            "kind 8 behind kind 7",
+            21,
+            after(&kind_7, &record(8, &BODY)),
         ),
     ]
 }

@@ -4,14 +4,16 @@ use std::io::{self, Write};
 
 use crate::both_numbers::BothNumbers;
 use crate::cases::InLogs;
-use crate::counts::{above, add, count, least, print_classes, Class, Counts, Never};
+use crate::counts::{above, add, count, least, print_classes, setup_in_words};
+use crate::counts::{Class, Counts, Never, SETUPS};
 use crate::lines::Reply;
+use crate::other_rankings::OtherRankings;
 use crate::rules::{Answer, Outcome, Refusal, Session, Setup};
 use crate::task_named::TaskNamed;
 
 /// The numbers that the replay of a log can give. 28 is for writers with a buffer of one size.
-const REFUSALS: [u8; 19] = [
-    1, 2, 3, 4, 5, 6, 7, 10, 11, 12, 13, 20, 21, 22, 23, 24, 25, 26, 27,
+const REFUSALS: [u8; 20] = [
+    1, 2, 3, 4, 5, 6, 7, 10, 11, 12, 13, 14, 20, 21, 22, 23, 24, 25, 26, 27,
 ];
 
 const ANSWERS: [&str; 4] = ["ok", "run", "wait", "no"];
@@ -27,23 +29,71 @@ pub struct LogCounts {
     admissions: Counts<usize>,
     /// Admissions by clash count.
     clashes: Counts<u32>,
-    /// Both numbers of the admissions.
-    both_numbers: InLogs<BothNumbers>,
-    /// The tasks named by releases that wait.
-    tasks_named: InLogs<TaskNamed>,
     /// Events that admitted more than m tasks.
     above_m: u64,
     /// Accepted events after which some task waits for a processor only.
     room_only: u64,
+    /// Logs with an allowed setup, by what it is.
+    setups: Counts<&'static str>,
+    /// By mode.
+    modes: [ModeCounts; 2],
+    /// Of random logs.
+    other_rankings: OtherRankings,
+}
+
+/// What came up in the logs of one mode.
+#[derive(Default)]
+struct ModeCounts {
+    /// Both numbers of the admissions.
+    both_numbers: InLogs<BothNumbers>,
+    /// The tasks named by releases that wait.
+    tasks_named: InLogs<TaskNamed>,
     /// Logs with an allowed setup, by m and by n.
     processors: Counts<usize>,
     tasks: Counts<usize>,
 }
 
+impl ModeCounts {
+    fn must_come_up(&self, mode: usize) -> Vec<Class> {
+        let (processors, tasks) = (least(&self.processors, 16), least(&self.tasks, 64));
+        let sizes = |of: &str, least| {
+            let what = format!("logs of mode {mode} for each {of}");
+            Class::new(what, least, 3)
+        };
+        let mut classes = vec![
+            sizes("m from 1 to 16", processors),
+            sizes("n from 1 to 64", tasks),
+        ];
+        let logs = format!("logs of mode {mode}");
+        let admissions = format!("admissions in mode {mode}");
+        classes.extend(self.both_numbers.must_come_up(&admissions, &logs));
+        let waits = format!("waits in mode {mode}");
+        let logs = format!("{logs} that have waits");
+        classes.extend(self.tasks_named.must_come_up(&waits, &logs));
+        classes
+    }
+
+    fn must_not_come_up(&self, mode: usize) -> [Never; 2] {
+        let admissions = format!("admissions in mode {mode}");
+        let waits = format!("waits in mode {mode}");
+        [
+            self.both_numbers.must_not_come_up(&admissions),
+            self.tasks_named.must_not_come_up(&waits),
+        ]
+    }
+}
+
 impl LogCounts {
-    pub fn book_setup(&mut self, setup: &Setup) {
-        add(&mut self.processors, usize::from(setup.processors));
-        add(&mut self.tasks, setup.tasks.len());
+    /// Books a setup that is allowed, and its kind.
+    pub fn book_setup(&mut self, setup: &Setup, kind: u16) {
+        add(&mut self.setups, setup_in_words(kind, setup.mode));
+        let mode = &mut self.modes[usize::from(setup.mode)];
+        add(&mut mode.processors, usize::from(setup.processors));
+        add(&mut mode.tasks, setup.tasks.len());
+    }
+
+    pub fn book_random_log(&mut self, log: &[u8]) {
+        self.other_rankings.book_log(log);
     }
 
     /// Books the reply to one event of this task, with the session after it.
@@ -66,15 +116,16 @@ impl LogCounts {
         };
         add(&mut self.answers, word);
         add(&mut self.admissions, outcome.admitted.len());
+        let mode = &mut self.modes[usize::from(session.setup().mode)];
         for admission in &outcome.admitted {
             add(&mut self.clashes, admission.clashes);
-            self.both_numbers.book(&BothNumbers {
+            mode.both_numbers.book(&BothNumbers {
                 clashes: admission.clashes.into(),
                 retries: admission.retries.into(),
             });
         }
         if let Some(named) = TaskNamed::of_wait(session, task, outcome) {
-            self.tasks_named.book(&named);
+            mode.tasks_named.book(&named);
         }
         let most = usize::from(session.setup().processors);
         self.above_m += u64::from(outcome.admitted.len() > most);
@@ -86,8 +137,10 @@ impl LogCounts {
         if let Some(refusal) = bad {
             add(&mut self.refusals, refusal.number());
         }
-        self.both_numbers.book_end();
-        self.tasks_named.book_end();
+        for mode in &mut self.modes {
+            mode.both_numbers.book_end();
+            mode.tasks_named.book_end();
+        }
     }
 
     /// What must have come up.
@@ -100,7 +153,10 @@ impl LogCounts {
             let what = format!("answer {word}");
             Class::once(what, count(&self.answers, word))
         });
-        let (processors, tasks) = (least(&self.processors, 16), least(&self.tasks, 64));
+        let setups = SETUPS.map(|words| {
+            let what = format!("logs with {words}");
+            Class::new(what, count(&self.setups, words), 50)
+        });
         let others = [
             Class::once("one task admitted", count(&self.admissions, 1)),
             Class::once("several tasks admitted", above(&self.admissions, 1)),
@@ -108,18 +164,15 @@ impl LogCounts {
             Class::once("admissions with 1 clash", count(&self.clashes, 1)),
             Class::once("admissions with more clashes", above(&self.clashes, 1)),
             Class::once("a wait for a processor only", self.room_only),
-            Class::new("logs for each m from 1 to 16", processors, 3),
-            Class::new("logs for each n from 1 to 64", tasks, 3),
         ];
-        let in_logs = [
-            self.both_numbers.must_come_up("admissions", "logs"),
-            self.tasks_named
-                .must_come_up("waits", "logs that have waits"),
-        ];
+        let modes = self.modes.iter().enumerate();
+        let modes = modes.flat_map(|(number, mode)| mode.must_come_up(number));
         let replies = refusals.into_iter().chain(answers);
         replies
             .chain(others)
-            .chain(in_logs.into_iter().flatten())
+            .chain(setups)
+            .chain(modes)
+            .chain(self.other_rankings.must_come_up())
             .collect()
     }
 
@@ -127,13 +180,15 @@ impl LogCounts {
     ///
     /// A waiting transaction clashed with an executing one when it was released, and is admitted
     /// only after that one's commit, which raises its clash count; so none is admitted with 0.
-    pub fn must_not_come_up(&self) -> [Never; 4] {
-        [
+    pub fn must_not_come_up(&self) -> Vec<Never> {
+        let mut nevers = vec![
             Never::new("admissions with 0 clashes", count(&self.clashes, 0)),
-            self.both_numbers.must_not_come_up("admissions"),
-            self.tasks_named.must_not_come_up("waits"),
             Never::new("more than m admitted", self.above_m),
-        ]
+        ];
+        for (number, mode) in self.modes.iter().enumerate() {
+            nevers.extend(mode.must_not_come_up(number));
+        }
+        nevers
     }
 
     pub fn print(&self, report: &mut impl Write) -> io::Result<()> {

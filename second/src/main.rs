@@ -1,7 +1,7 @@
 //! An independent reading of document 01, its rules, its log, its replay lines and the sum of
-//! demand 3, and of requests CR 1, the report, CR 2, retries that never ran, and CR 3, whom a
-//! transaction waits for, in document 02; written from these documents alone, to be compared with
-//! other programs that follow them.
+//! demand 3, and of requests CR 1, the report, CR 2, retries that never ran, CR 3, whom a
+//! transaction waits for, and CR 5, earliest deadline first, in document 02; written from these
+//! documents alone, to be compared with other programs that follow them.
 //!
 //! Subcommands:
 //!
@@ -10,13 +10,13 @@
 //! - `second sum LENGTH [LOG]` prints, for each task, the sum for a wait of so many ticks.
 //! - `second log [TEXT] > LOG` makes a log of a readable text.
 //! - `second text [LOG] > TEXT` makes a readable text of a log.
-//! - `second make SEED KIND [EVENTS [M N]] > LOG` makes a random log.
+//! - `second make SEED KIND [EVENTS [M N [MODE]]] > LOG` makes a random log.
 //! - `second season SEED KIND FOLDER` makes a random list of logs for a report, in that folder.
 //! - `second compare PROGRAM [ARGS...]` compares another replay program with this one.
 //! - `second sheets PROGRAM [ARGS...]` compares another report program with this one.
 //! - `second sums PROGRAM [ARGS...]` compares another sum program with this one.
 //! - `second bench REPLAY REPORT` times another replay program against this one, and its report
-//!   program beside it.
+//!   program beside it, in both modes.
 //! - `second slowly PROGRAM [ARGS...]` runs a program with streams that do not block, slowly.
 //! - `second help`, `--help` and `-h` print the use; behind a subcommand, its own.
 //!
@@ -28,11 +28,12 @@
 //! replay), `text`; `tally` (what an event books) and `report` (the sheet); `sum`; then what stands
 //! around them: `trouble`, `descriptors`, `input`, `output`, `ending` (statuses) and `subcommands`;
 //! then what the comparisons need: `random`, `damage` and `seasons` (logs to try), `other` (the
-//! other program), `expected` (what it must say), `counts`, `cases`, `both_numbers`, `score` and
-//! `folder`; then the replay's: `vectors` (sessions written down), `task_named`, `log_counts`,
-//! `compare` and `bench`; then the report's: `sheet_vectors` (lists written down), `sheet_counts`
-//! and `sheets`; then the sum's: `sum_vectors` (answers written down), `first_records` (bad ones),
-//! `sum_counts` and `sums`; last `slowly`, for trying how a program reads and writes.
+//! other program), `expected` (what it must say), `counts`, `cases`, `both_numbers`, `score`,
+//! `folder`, `first_records` (bad ones written down); then the replay's: `vectors` (sessions
+//! written down), `task_named`, `other_rankings`, `log_counts`, `compare` and `bench`; then the
+//! report's: `sheet_vectors` (lists written down), `sheet_counts` and `sheets`; then the sum's:
+//! `sum_vectors` (answers written down), `sum_counts` and `sums`; last `slowly`, for trying how a
+//! program reads and writes.
 
 mod bench;
 mod both_numbers;
@@ -50,6 +51,7 @@ mod lines;
 mod log;
 mod log_counts;
 mod other;
+mod other_rankings;
 mod output;
 mod random;
 mod report;

@@ -3,12 +3,11 @@
 //! The generator keeps a session of its own, so that it can choose events that are accepted, and
 //! wrong ones only as often as it wants to.
 
-use std::cmp::Reverse;
 use std::collections::BTreeSet;
 
 use crate::log::{write_end, write_event, write_setup};
 use crate::rules::{Action, Event, Session, Setup, State, Task, Transaction};
-use crate::rules::{LONGEST_PERIOD, MOST_ACCEPTED};
+use crate::rules::{FIXED_PRIORITY, LONGEST_PERIOD, MOST_ACCEPTED};
 
 /// A small generator of numbers (splitmix64).
 pub struct Random(u64);
@@ -55,35 +54,64 @@ impl Random {
     }
 }
 
-/// How large a log is.
+/// How large a log is, and the mode of its setup.
 #[derive(Clone, Copy, Debug)]
-pub struct Size {
+pub struct Shape {
     pub processors: u8,
     pub tasks: u8,
     pub events: u32,
+    pub mode: u8,
 }
 
-impl Size {
-    pub fn new(processors: u8, tasks: u8, events: u32) -> Size {
-        Size {
+impl Shape {
+    /// A shape of mode 0.
+    pub fn new(processors: u8, tasks: u8, events: u32) -> Shape {
+        Shape {
             processors,
             tasks,
             events,
+            mode: FIXED_PRIORITY,
         }
     }
 
-    /// The size that goes with a seed: 1,024 seeds in a row give every m with every n.
-    pub fn of_seed(seed: u64) -> Size {
-        Size {
+    pub fn in_mode(self, mode: u8) -> Shape {
+        Shape { mode, ..self }
+    }
+
+    /// The shape that goes with a seed: 1,024 seeds in a row give every m with every n, the modes
+    /// like the colours of a chessboard.
+    pub fn of_seed(seed: u64) -> Shape {
+        Shape {
             processors: (1 + seed / 64 % 16) as u8,
             tasks: (1 + seed % 64) as u8,
             events: Random::new(!seed).between(0, 150),
+            mode: ((seed / 64 + seed) % 2) as u8,
+        }
+    }
+
+    /// The setup of these tasks.
+    fn setup(self, tasks: Vec<Task>) -> Setup {
+        Setup {
+            processors: self.processors,
+            mode: self.mode,
+            tasks,
         }
     }
 }
 
 /// The most ticks of a leap.
 const LEAPS: [u32; 3] = [1 << 20, 1 << 28, 1 << 31];
+
+/// The tick of the first events. The last three have deadlines before and past the last tick.
+const STARTS: [u32; 7] = [
+    0,
+    0,
+    1,
+    65_530,
+    u32::MAX - LONGEST_PERIOD / 2,
+    u32::MAX - 5000,
+    u32::MAX - 20,
+];
 
 /// How the tasks of a log behave.
 struct Style {
@@ -120,7 +148,7 @@ impl Style {
             wrong: random.pick(&[0, 5, 10, 40]),
             step: random.pick(&[0, 1, 2, 10, 1000]),
             leaps: 0,
-            start: random.pick(&[0, 0, 0, 1, 65_530, u32::MAX - 5000, u32::MAX - 20]),
+            start: random.pick(&STARTS),
         }
     }
 
@@ -151,8 +179,8 @@ impl Style {
     }
 
     /// A busy box: jobs with many transactions, of which about one in four waits.
-    fn busy(size: Size) -> Style {
-        let objects = (9 * size.processors).saturating_sub(10).max(1);
+    fn busy(shape: Shape) -> Style {
+        let objects = (9 * shape.processors).saturating_sub(10).max(1);
         Style {
             objects: (0..objects).collect(),
             most_reads: 2,
@@ -181,58 +209,58 @@ fn mixed_objects(random: &mut Random) -> Vec<u8> {
 }
 
 /// A good log, as the seed will have it.
-pub fn good_log(random: &mut Random, size: Size) -> Vec<u8> {
+pub fn good_log(random: &mut Random, shape: Shape) -> Vec<u8> {
     let style = Style::mixed(random);
-    let setup = mixed_setup(random, size);
+    let setup = mixed_setup(random, shape);
     let mut maker = Maker::new(random, style, setup);
-    for _ in 0..size.events {
+    for _ in 0..shape.events {
         maker.add_chosen_event();
     }
     maker.end()
 }
 
 /// A log of a busy box.
-pub fn busy_log(random: &mut Random, size: Size) -> Vec<u8> {
-    let setup = busy_setup(random, size);
-    let mut maker = Maker::new(random, Style::busy(size), setup);
-    for _ in 0..size.events {
+pub fn busy_log(random: &mut Random, shape: Shape) -> Vec<u8> {
+    let setup = busy_setup(random, shape);
+    let mut maker = Maker::new(random, Style::busy(shape), setup);
+    for _ in 0..shape.events {
         maker.add_chosen_event();
     }
     maker.end()
 }
 
-/// A busy log that goes on until no more events are accepted, and then for `size.events` more.
-pub fn full_log(random: &mut Random, size: Size) -> Vec<u8> {
-    let setup = busy_setup(random, size);
-    let mut maker = Maker::new(random, Style::busy(size), setup);
+/// A busy log that goes on until no more events are accepted, and then for `shape.events` more.
+pub fn full_log(random: &mut Random, shape: Shape) -> Vec<u8> {
+    let setup = busy_setup(random, shape);
+    let mut maker = Maker::new(random, Style::busy(shape), setup);
     while maker.session.accepted() < MOST_ACCEPTED {
         maker.add_chosen_event();
     }
     maker.style.wrong = 50;
-    for _ in 0..size.events {
+    for _ in 0..shape.events {
         maker.add_chosen_event();
     }
     maker.end()
 }
 
 /// Task 0 writes every object and all the others come to wait for it, so that its commit admits
-/// as many as there is room for. Then `size.events` more.
-pub fn flock_log(random: &mut Random, size: Size) -> Vec<u8> {
+/// as many as there is room for. Then `shape.events` more.
+pub fn flock_log(random: &mut Random, shape: Shape) -> Vec<u8> {
     let style = Style::mixed(random);
-    let setup = busy_setup(random, size);
+    let setup = busy_setup(random, shape);
     let mut maker = Maker::new(random, style, setup);
     maker.add_flock(0, 1);
-    for _ in 0..size.events {
+    for _ in 0..shape.events {
         maker.add_chosen_event();
     }
     maker.end()
 }
 
 /// First a release that waits and admits one that clashes with it; see `Maker::add_deferred`. Then
-/// `size.events` more.
-pub fn deferred_log(random: &mut Random, size: Size) -> Vec<u8> {
-    let setup = season_setup(random, size.processors, size.tasks);
-    log_of_setup(random, &setup, size.events, Behaviour::Deferred)
+/// `shape.events` more.
+pub fn deferred_log(random: &mut Random, shape: Shape) -> Vec<u8> {
+    let setup = season_setup(random, shape);
+    log_of_setup(random, &setup, shape.events, Behaviour::Deferred)
 }
 
 /// How the tasks of one log of a given setup behave.
@@ -279,19 +307,16 @@ pub fn log_of_setup(
 }
 
 /// A setup for the logs of a season: every task has transactions, and jobs come soon again.
-pub fn season_setup(random: &mut Random, processors: u8, tasks: u8) -> Setup {
+pub fn season_setup(random: &mut Random, shape: Shape) -> Setup {
     let most_priority = random.pick(&[1, 3, 65_535]);
     let most_period = random.pick(&[1, 5, 50, 5000]);
     let most_transactions = random.pick(&[2, 5, 255]);
-    let tasks = (0..tasks).map(|_| Task {
+    let tasks = (0..shape.tasks).map(|_| Task {
         priority: random.up_to(most_priority) as u16,
         period: random.up_to(most_period),
         transactions: random.between(1, most_transactions) as u8,
     });
-    Setup {
-        processors,
-        tasks: tasks.collect(),
-    }
+    shape.setup(tasks.collect())
 }
 
 /// A log with one wait after another, of these lengths in ticks. Tasks 1 and 2 wait in turn for
@@ -302,10 +327,7 @@ pub fn log_of_waits(random: &mut Random, waits: &[u32]) -> Vec<u8> {
         period: 1,
         transactions: 1,
     };
-    let setup = Setup {
-        processors: 3,
-        tasks: vec![task; 3],
-    };
+    let setup = Shape::new(3, 3, 0).setup(vec![task; 3]);
     let style = Style::contended(random);
     let mut maker = Maker::new(random, style, setup);
     let mut tick = 0;
@@ -323,32 +345,26 @@ pub fn log_of_waits(random: &mut Random, waits: &[u32]) -> Vec<u8> {
 }
 
 /// A setup of any kind that is allowed.
-pub fn mixed_setup(random: &mut Random, size: Size) -> Setup {
+pub fn mixed_setup(random: &mut Random, shape: Shape) -> Setup {
     let most_priority = random.pick(&[1, 3, 100, 65_535]);
     let most_period = random.pick(&[1, 5, 50, 5000, LONGEST_PERIOD]);
     let most_transactions = random.pick(&[2, 5, 255]);
-    let tasks = (0..size.tasks).map(|_| Task {
+    let tasks = (0..shape.tasks).map(|_| Task {
         priority: random.up_to(most_priority) as u16,
         period: random.up_to(most_period),
         transactions: random.between(0, most_transactions) as u8,
     });
-    Setup {
-        processors: size.processors,
-        tasks: tasks.collect(),
-    }
+    shape.setup(tasks.collect())
 }
 
 /// Short periods, so that jobs come again and again, with many transactions each.
-fn busy_setup(random: &mut Random, size: Size) -> Setup {
-    let tasks = (0..size.tasks).map(|_| Task {
+fn busy_setup(random: &mut Random, shape: Shape) -> Setup {
+    let tasks = (0..shape.tasks).map(|_| Task {
         priority: random.between(1, 65_535) as u16,
         period: random.between(1, 20),
         transactions: random.between(100, 255) as u8,
     });
-    Setup {
-        processors: size.processors,
-        tasks: tasks.collect(),
-    }
+    shape.setup(tasks.collect())
 }
 
 /// A log in the making.
@@ -396,7 +412,8 @@ impl Maker<'_> {
     /// rank has no room, since the highest ranked one is plain. That one's release clashes with it
     /// and with some of the others, and waits, so that its scan admits the second in rank.
     ///
-    /// With fewer than m + 2 tasks the second in rank has room, and the commit admits it.
+    /// All arrive at tick 0: by deadline the shortest period ranks highest. With fewer than m + 2
+    /// tasks the second in rank has room, and the commit admits it.
     fn add_deferred(&mut self) {
         let mut ranked = self.tasks_by_rank();
         if ranked.len() < 3 {
@@ -414,24 +431,25 @@ impl Maker<'_> {
             // The higher its number, the lower is its object.
             let object = [63 - other];
             match self.random.below(3) {
-                0 => self.add_released(1, other, &[], &object),
-                _ => self.add_released(1, other, &object, &[]),
+                0 => self.add_released(0, other, &[], &object),
+                _ => self.add_released(0, other, &object, &[]),
             }
             match self.random.below(2) {
                 0 => reads.extend(object),
                 _ => writes.extend(object),
             }
         }
-        self.add(2, highest, Action::Arrive);
+        self.add(0, highest, Action::Arrive);
         self.add(3, first, Action::Commit);
         self.add_release(4, highest, &reads, &writes);
     }
 
-    /// All tasks, the highest rank first.
+    /// All tasks as they rank if each arrives at tick 0, the highest rank first.
     fn tasks_by_rank(&self) -> Vec<u8> {
-        let tasks = &self.session.setup().tasks;
-        let mut ranked: Vec<u8> = (0..tasks.len() as u8).collect();
-        ranked.sort_by_key(|task| (Reverse(tasks[usize::from(*task)].priority), *task));
+        let setup = self.session.setup();
+        let place = setup.ranking();
+        let mut ranked: Vec<u8> = (0..setup.tasks.len() as u8).collect();
+        ranked.sort_by_key(|task| (place(setup, *task, 0), *task));
         ranked
     }
 

@@ -1,15 +1,18 @@
 //! The rules of one session: tasks, transactions, events, refusals and the scan.
 //!
-//! Every name here is a word of document 01 or of requests CR 2 and CR 3 in document 02, and every
-//! step follows one of their sentences.
+//! Every name here is a word of document 01 or of requests CR 2, CR 3 and CR 5 in document 02, and
+//! every step follows one of their sentences.
 
-use std::cmp::Reverse;
 use std::collections::{BTreeMap, BTreeSet};
 
 pub const MOST_PROCESSORS: u8 = 16;
 pub const MOST_TASKS: usize = 64;
 pub const LONGEST_PERIOD: u32 = 86_400_000;
 pub const MOST_ACCEPTED: u32 = 1_000_000;
+
+/// The modes of a setup: a job ranks by its task's priority, or by its own deadline.
+pub const FIXED_PRIORITY: u8 = 0;
+pub const DEADLINE: u8 = 1;
 
 /// Why an event, a setup, a record or a booking is refused. The values are the refusal numbers.
 /// Number 28 is missing: this program writes into memory that grows, so it has always room.
@@ -26,6 +29,7 @@ pub enum Refusal {
     TasksNotAllowed = 11,
     PriorityZero = 12,
     PeriodNotAllowed = 13,
+    UnknownMode = 14,
     CutOff = 20,
     UnknownKind = 21,
     WrongLength = 22,
@@ -66,21 +70,25 @@ impl Task {
     }
 }
 
-/// The box a session runs on: m processors, and n tasks numbered from 0.
+/// The box a session runs on: m processors, the mode, and n tasks numbered from 0.
 #[derive(Clone, Debug, PartialEq, Eq)]
 pub struct Setup {
     pub processors: u8,
+    pub mode: u8,
     pub tasks: Vec<Task>,
 }
 
 impl Setup {
-    /// Tries 10, 11, then 12 and 13 for each task, the lowest task first.
+    /// Tries 10, 11, 14, then 12 and 13 for each task, the lowest task first.
     pub fn check(&self) -> Result<(), Refusal> {
         if !(1..=MOST_PROCESSORS).contains(&self.processors) {
             return Err(Refusal::ProcessorsNotAllowed);
         }
         if !(1..=MOST_TASKS).contains(&self.tasks.len()) {
             return Err(Refusal::TasksNotAllowed);
+        }
+        if ![FIXED_PRIORITY, DEADLINE].contains(&self.mode) {
+            return Err(Refusal::UnknownMode);
         }
         self.tasks.iter().try_for_each(Task::check)
     }
@@ -99,6 +107,29 @@ impl Setup {
             })
             .sum())
     }
+
+    /// How jobs are ranked in a setup that has been checked.
+    pub fn ranking(&self) -> Ranking {
+        match self.mode {
+            FIXED_PRIORITY => by_priority,
+            _ => by_deadline,
+        }
+    }
+}
+
+/// The place that a job of this task has in a ranking if it arrives at this tick: the lower place
+/// ranks higher.
+pub type Ranking = fn(&Setup, u8, u32) -> u64;
+
+/// The larger priority ranks higher, whenever the job arrives.
+pub fn by_priority(setup: &Setup, task: u8, _arrival: u32) -> u64 {
+    u64::from(u16::MAX - setup.tasks[usize::from(task)].priority)
+}
+
+/// The earlier deadline ranks higher: the arrival tick plus the period, which can be later than
+/// any tick.
+pub fn by_deadline(setup: &Setup, task: u8, arrival: u32) -> u64 {
+    u64::from(arrival) + u64::from(setup.tasks[usize::from(task)].period)
 }
 
 /// The objects a transaction reads and those it writes. An object may stand in both.
@@ -202,11 +233,11 @@ pub enum State {
     Executing,
 }
 
-/// The place of a task in the ranking. A task that ranks higher sorts earlier: a larger priority
-/// comes first, and of two equal ones the lower task number.
+/// The rank of a present job, the same from its arrival to its finish. One that ranks higher sorts
+/// earlier: by its place in the ranking, and of two equal ones the lower task number.
 #[derive(Clone, Copy, Debug, PartialEq, Eq, PartialOrd, Ord)]
 struct Rank {
-    priority: Reverse<u16>,
+    place: u64,
     task: u8,
 }
 
@@ -223,6 +254,8 @@ struct Waiting {
 #[derive(Clone, Debug, Default)]
 struct Job {
     last_arrival: Option<u32>,
+    /// Nothing while the task is absent.
+    rank: Option<Rank>,
     /// Releases accepted in the present job; 0 while the task is absent.
     releases: u8,
 }
@@ -231,6 +264,7 @@ struct Job {
 #[derive(Clone, Debug)]
 pub struct Session {
     setup: Setup,
+    ranking: Ranking,
     jobs: Vec<Job>,
     plain: BTreeSet<Rank>,
     /// Sorted, the highest rank first.
@@ -243,7 +277,14 @@ pub struct Session {
 impl Session {
     /// A fresh session of a setup that has been checked.
     pub fn new(setup: Setup) -> Session {
+        let ranking = setup.ranking();
+        Session::ranked(setup, ranking)
+    }
+
+    /// The same, but jobs are ranked in this way, whatever the mode.
+    pub fn ranked(setup: Setup, ranking: Ranking) -> Session {
         Session {
+            ranking,
             jobs: vec![Job::default(); setup.tasks.len()],
             setup,
             plain: BTreeSet::new(),
@@ -271,19 +312,11 @@ impl Session {
     }
 
     pub fn state(&self, task: u8) -> State {
-        let rank = self.rank(task);
-        if self.executing.contains_key(&task) {
-            State::Executing
-        } else if self.plain.contains(&rank) {
-            State::Plain
-        } else if self
-            .waiting
-            .binary_search_by_key(&rank, |waiting| waiting.rank)
-            .is_ok()
-        {
-            State::Waiting
-        } else {
-            State::Absent
+        match self.jobs[usize::from(task)].rank {
+            None => State::Absent,
+            Some(_) if self.executing.contains_key(&task) => State::Executing,
+            Some(rank) if self.plain.contains(&rank) => State::Plain,
+            Some(_) => State::Waiting,
         }
     }
 
@@ -365,9 +398,12 @@ impl Session {
     }
 
     fn arrive(&mut self, task: u8, tick: u32) -> Outcome {
-        self.plain.insert(self.rank(task));
+        let place = (self.ranking)(&self.setup, task, tick);
+        let rank = Rank { place, task };
+        self.plain.insert(rank);
         self.jobs[usize::from(task)] = Job {
             last_arrival: Some(tick),
+            rank: Some(rank),
             releases: 0,
         };
         Outcome::without_scan(Answer::Ok)
@@ -422,7 +458,9 @@ impl Session {
 
     fn finish(&mut self, task: u8) -> Outcome {
         self.plain.remove(&self.rank(task));
-        self.jobs[usize::from(task)].releases = 0;
+        let job = &mut self.jobs[usize::from(task)];
+        job.rank = None;
+        job.releases = 0;
         Outcome {
             answer: Answer::Ok,
             admitted: self.scan(),
@@ -506,8 +544,9 @@ impl Session {
             .collect()
     }
 
+    /// The rank of a present job.
     fn rank(&self, task: u8) -> Rank {
-        let priority = Reverse(self.setup.tasks[usize::from(task)].priority);
-        Rank { priority, task }
+        let job = &self.jobs[usize::from(task)];
+        job.rank.expect("only a present job is ranked")
     }
 }

@@ -3,6 +3,7 @@
 use std::io::{self, Write};
 
 use crate::counts::{Class, Never};
+use crate::rules::Refusal;
 
 pub struct Score<W> {
     pub report: W,
@@ -34,6 +35,13 @@ impl<W: Write> Score<W> {
     pub fn book_run(&mut self, what: &str, fault: Option<String>) -> io::Result<()> {
         let fault = fault.as_deref();
         self.book(fault.is_none(), &format!("{what}\n{}", fault.unwrap_or("")))
+    }
+
+    /// Books whether a bad log was refused with the number that it must be refused with.
+    pub fn book_bad(&mut self, what: &str, number: u8, found: Option<Refusal>) -> io::Result<()> {
+        let found = found.map(Refusal::number);
+        let what = format!("{what}: not {number} but {found:?}");
+        self.book(found == Some(number), &what)
     }
 
     /// Books whether each class came up often enough.

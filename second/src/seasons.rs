@@ -1,9 +1,9 @@
 //! Seasons: lists of logs for a report, mostly of one setup. The same seed and kind always give
 //! the same list.
 
-use crate::damage::{record_starts, DAMAGES};
-use crate::random::{log_of_setup, season_setup, Behaviour, Random};
-use crate::rules::{Setup, LONGEST_PERIOD, MOST_PROCESSORS, MOST_TASKS};
+use crate::damage::{say_mode, setup_bytes, DAMAGES};
+use crate::random::{log_of_setup, season_setup, Behaviour, Random, Shape};
+use crate::rules::{Setup, DEADLINE, FIXED_PRIORITY, LONGEST_PERIOD, MOST_PROCESSORS, MOST_TASKS};
 
 /// The kinds in which every log reads well and has the same setup.
 pub const GOOD: [(&str, Behaviour); 4] = [
@@ -17,8 +17,9 @@ pub const GOOD: [(&str, Behaviour); 4] = [
 type Difference = fn(&mut Random, &mut Setup);
 
 /// The kinds in which one log, not the first, has another setup (40).
-pub const OTHER_SETUPS: [(&str, Difference); 6] = [
+pub const OTHER_SETUPS: [(&str, Difference); 7] = [
     ("other-m", other_processors),
+    ("other-mode", other_mode),
     ("one-task-more", one_task_more),
     ("one-task-less", one_task_less),
     ("other-priority", other_priority),
@@ -46,7 +47,8 @@ pub fn season(seed: u64, kind: &str) -> Option<Vec<Vec<u8>>> {
     Some(logs)
 }
 
-/// Every n comes up in 64 seeds; of each two seeds in a row, one has few tasks.
+/// Every n comes up in 128 seeds; of each two seeds in a row, one has few tasks; of each eight,
+/// four have mode 1.
 fn setup_of_seed(random: &mut Random, seed: u64) -> Setup {
     let few = random.between(2, 6) as u8;
     let tasks = match seed % 2 {
@@ -58,7 +60,8 @@ fn setup_of_seed(random: &mut Random, seed: u64) -> Setup {
         0 => processors.min(3),
         _ => processors,
     };
-    season_setup(random, processors, tasks)
+    let mode = (seed / 4 % 2) as u8;
+    season_setup(random, Shape::new(processors, tasks, 0).in_mode(mode))
 }
 
 fn good_season(random: &mut Random, seed: u64, behaviour: Behaviour) -> Vec<Vec<u8>> {
@@ -69,9 +72,14 @@ fn good_season(random: &mut Random, seed: u64, behaviour: Behaviour) -> Vec<Vec<
         .collect()
 }
 
+/// A log of a setup. One of mode 0 may say it in kind 7, for it is the same setup.
 fn some_log(random: &mut Random, setup: &Setup, behaviour: Behaviour) -> Vec<u8> {
     let events = random.between(0, 150);
-    log_of_setup(random, setup, events, behaviour)
+    let mut log = log_of_setup(random, setup, events, behaviour);
+    if random.percent(30) {
+        say_mode(&mut log);
+    }
+    log
 }
 
 /// A good season, but one log has another setup. In one of three lists the same log is cut too.
@@ -83,7 +91,7 @@ fn other_setup(random: &mut Random, seed: u64, difference: Difference) -> Vec<Ve
     }
     let mut other = some_log(random, &other, Behaviour::Contended);
     if random.below(3) == 0 {
-        let first_event = record_starts(&other)[1];
+        let first_event = setup_bytes(&other);
         other.truncate(first_event + random.below(other.len() - first_event));
     }
     let mut logs: Vec<Vec<u8>> = (0..random.between(1, 4))
@@ -96,6 +104,13 @@ fn other_setup(random: &mut Random, seed: u64, difference: Difference) -> Vec<Ve
 
 fn other_processors(random: &mut Random, setup: &mut Setup) {
     setup.processors = random.between(1, u32::from(MOST_PROCESSORS)) as u8;
+}
+
+fn other_mode(_: &mut Random, setup: &mut Setup) {
+    setup.mode = match setup.mode {
+        FIXED_PRIORITY => DEADLINE,
+        _ => FIXED_PRIORITY,
+    };
 }
 
 /// A task more; where there are as many as allowed, a task less.

@@ -9,12 +9,12 @@ use crate::cases::CaseCounts;
 use crate::counts::{add, add_all, count, least, print_classes, Class, Counts, Never};
 use crate::input::STANDARD_INPUT;
 use crate::report::{Onlooker, Report};
-use crate::rules::{Action, Event, Refusal, Setup};
+use crate::rules::{Action, Event, Refusal, Setup, FIXED_PRIORITY};
 use crate::tally::{Booking, Commit, Tally, Wait, LAST_WAITS, MOST_TOTAL};
 use crate::trouble::Trouble;
 
 /// The numbers by which a log ends a report. 28 is for writers with a buffer of one size.
-const BAD: [u8; 13] = [10, 11, 12, 13, 20, 21, 22, 23, 24, 25, 26, 27, 40];
+const BAD: [u8; 14] = [10, 11, 12, 13, 14, 20, 21, 22, 23, 24, 25, 26, 27, 40];
 
 /// The numbers by which the manager refuses an event.
 const REFUSED: [u8; 7] = [1, 2, 3, 4, 5, 6, 7];
@@ -58,6 +58,13 @@ const ON_SHEETS: [&str; 35] = [
     "commits without a wait after one with a wait was left out",
 ];
 
+/// What must come up there often.
+const ON_MANY_SHEETS: [&str; 3] = [
+    "sheets of mode 0 with a wait",
+    "sheets of mode 1 with a wait",
+    "sheets over setups of kind 1 and of kind 7",
+];
+
 #[derive(Default)]
 pub struct SheetCounts {
     /// Lists that end with a bad log, by its number.
@@ -88,6 +95,9 @@ struct ListCounts {
     /// Both numbers of the waits booked.
     in_waits: CaseCounts<BothNumbers>,
     processors: usize,
+    mode: u8,
+    /// The kinds of the setups.
+    kinds: BTreeSet<u16>,
     /// Whether an event was left out.
     left_out: bool,
     /// Whether the session before ended with waits open.
@@ -161,6 +171,7 @@ impl SheetCounts {
             Class::once(what, count(&self.refused, number))
         });
         let on_sheets = ON_SHEETS.map(|what| Class::once(what, count(&self.on_sheets, what)));
+        let on_many = ON_MANY_SHEETS.map(|what| Class::new(what, count(&self.on_sheets, what), 50));
         let (processors, tasks) = (least(&self.processors, 16), least(&self.tasks, 64));
         let sizes = [
             Class::once("sheets for each m from 1 to 16", processors),
@@ -172,6 +183,7 @@ impl SheetCounts {
             self.in_sheets.must_come_up("sheets"),
         ];
         let lists = endings.into_iter().chain(bad);
+        let on_sheets = on_sheets.into_iter().chain(on_many);
         let sheets = refused.into_iter().chain(on_sheets).chain(sizes);
         lists
             .chain(sheets)
@@ -205,9 +217,11 @@ impl SheetCounts {
 }
 
 impl Onlooker for SheetCounts {
-    fn setup(&mut self, setup: &Setup) {
+    fn setup(&mut self, setup: &Setup, kind: u16) {
         let list = &mut self.list;
         list.processors = usize::from(setup.processors);
+        list.mode = setup.mode;
+        list.kinds.insert(kind);
         list.opened_by_left_out.clear();
         list.admitted_by_left_out.clear();
         list.waited_and_left_out.clear();
@@ -257,7 +271,7 @@ impl Onlooker for SheetCounts {
 
 impl ListCounts {
     fn add(&mut self, what: &'static str) {
-        debug_assert!(ON_SHEETS.contains(&what));
+        debug_assert!(ON_SHEETS.contains(&what) || ON_MANY_SHEETS.contains(&what));
         add(&mut self.came_up, what);
     }
 
@@ -357,6 +371,15 @@ impl ListCounts {
         }
         if report.left() > 0 {
             self.add("sheets in which 41 left out events");
+        }
+        if self.kinds.len() > 1 {
+            self.add("sheets over setups of kind 1 and of kind 7");
+        }
+        if tally.waits() > 0 {
+            self.add(match self.mode {
+                FIXED_PRIORITY => "sheets of mode 0 with a wait",
+                _ => "sheets of mode 1 with a wait",
+            });
         }
         let most = LAST_WAITS as u64;
         self.add(match tally.waits() {

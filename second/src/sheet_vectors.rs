@@ -6,8 +6,9 @@
 //! A sum of three in a comment is the one that decides on a retry, just before a commit: executing
 //! tasks + plain tasks + waiting tasks ranked above.
 
-use crate::vectors::{DEFERRED_TEXT, NEW_SETS_TEXT, PAIR_TEXT, WHOLE_TEXT};
-use crate::vectors::{PLAIN_BELOW_TEXT, WAITING_ABOVE_TEXT};
+use crate::vectors::{DEFERRED_TEXT, NEW_SETS_TEXT, PAIR_TEXT, PLAIN_BELOW_TEXT};
+use crate::vectors::{LATE_TEXT, ORDER_IN_MODE_0_TEXT, ORDER_IN_MODE_1_TEXT, OVERTAKEN_TEXT};
+use crate::vectors::{WAITING_ABOVE_TEXT, WHOLE_IN_MODE_0_TEXT, WHOLE_IN_MODE_1_TEXT, WHOLE_TEXT};
 
 /// Sessions in readable text, in their order, and the sheet over them.
 pub struct WrittenList {
@@ -16,7 +17,7 @@ pub struct WrittenList {
     pub sheet: &'static str,
 }
 
-pub const LISTS: [WrittenList; 16] = [
+pub const LISTS: [WrittenList; 23] = [
     WrittenList {
         name: "the session of 01 twice",
         texts: &[WHOLE_TEXT, WHOLE_TEXT],
@@ -96,6 +97,41 @@ pub const LISTS: [WrittenList; 16] = [
         name: "41 for the commit of one that had waited",
         texts: &[FIRST_FULL_TEXT, CHAIN_TEXT],
         sheet: CHAIN_SHEET,
+    },
+    WrittenList {
+        name: "the session of 01 in kind 1, and in kind 7 with mode 0",
+        texts: &[WHOLE_TEXT, WHOLE_IN_MODE_0_TEXT],
+        sheet: WHOLE_TWICE_SHEET,
+    },
+    WrittenList {
+        name: "the session of 01 in kind 7 with mode 0, and in kind 1",
+        texts: &[WHOLE_IN_MODE_0_TEXT, WHOLE_TEXT],
+        sheet: WHOLE_TWICE_SHEET,
+    },
+    WrittenList {
+        name: "the session of 01 in mode 1 twice",
+        texts: &[WHOLE_IN_MODE_1_TEXT, WHOLE_IN_MODE_1_TEXT],
+        sheet: WHOLE_TWICE_SHEET,
+    },
+    WrittenList {
+        name: "two tasks in the order of mode 0",
+        texts: &[ORDER_IN_MODE_0_TEXT],
+        sheet: ORDER_IN_MODE_0_SHEET,
+    },
+    WrittenList {
+        name: "the same two in the order of mode 1",
+        texts: &[ORDER_IN_MODE_1_TEXT],
+        sheet: ORDER_IN_MODE_1_SHEET,
+    },
+    WrittenList {
+        name: "a waiting task overtaken by a later arrival, twice",
+        texts: &[OVERTAKEN_TEXT, OVERTAKEN_TEXT],
+        sheet: OVERTAKEN_SHEET,
+    },
+    WrittenList {
+        name: "deadlines past the last tick",
+        texts: &[LATE_TEXT],
+        sheet: LATE_SHEET,
     },
 ];
 
@@ -642,6 +678,70 @@ most 1 2
 left 1
 ";
 
+/// Tasks 0, 1 and 2 commit once, at 5, 7 and 8, and 1 and 2 had waited. Task 1 waits from 2 to 5, 3
+/// ticks, and task 2 from 4 to 5, 1 tick, with 1 clash each; 1 ranks higher and has the retry. Task
+/// 3 waits from 6 to 8, 2 ticks, with 2 clashes. Of 1 2 3, k = 3: middle number 2, nine tenths
+/// number ⌈27/10⌉ = 3.
+const ORDER_IN_MODE_0_SHEET: &str = "\
+logs 1
+task committed waited clashes retries longest ticks waits
+0 1 0 0 0 0 0 0
+1 1 1 1 1 3 3 1
+2 1 1 1 0 1 1 1
+3 0 0 2 0 2 2 1
+middle 2
+ninetenths 3
+most 1 3 2
+left 0
+";
+
+/// The same, but 2 ranks higher and has the retry.
+const ORDER_IN_MODE_1_SHEET: &str = "\
+logs 1
+task committed waited clashes retries longest ticks waits
+0 1 0 0 0 0 0 0
+1 1 1 1 0 3 3 1
+2 1 1 1 1 1 1 1
+3 0 0 2 0 2 2 1
+middle 2
+ninetenths 3
+most 1 3 2
+left 0
+";
+
+/// In each session: 2 and 1 commit once, and 1 had waited, from 51 to 52, 1 tick, with 1 clash and
+/// 1 retry. Task 0 waits from 3 to 54, 51 ticks, with 2 clashes, and does not commit. Of 1 1 51 51,
+/// k = 4: middle number 2, nine tenths number ⌈36/10⌉ = 4.
+const OVERTAKEN_SHEET: &str = "\
+logs 2
+task committed waited clashes retries longest ticks waits
+0 0 0 4 0 51 102 2
+1 2 2 2 2 1 2 2
+2 2 0 0 0 0 0 0
+middle 1
+ninetenths 51
+most 0 1
+left 0
+";
+
+/// Tasks 4 and 1 commit once, and 1 had waited. The waits of 1, 0, 2 and 3 end at MAX after 90, 50,
+/// 20 and 0 ticks, with 1 clash each, and a retry but for task 3. Those of 5, and of 1 once more,
+/// are open at the end. Of 0 20 50 90, k = 4: middle number 2, nine tenths number 4.
+const LATE_SHEET: &str = "\
+logs 1
+task committed waited clashes retries longest ticks waits
+0 0 0 1 1 50 50 1
+1 1 1 1 1 90 90 1
+2 0 0 1 1 20 20 1
+3 0 0 1 0 0 0 1
+4 1 0 0 0 0 0 0
+5 0 0 0 0 0 0 0
+middle 20
+ninetenths 90
+most 1 0 2 3
+left 0
+";
+
 /// The log of a text, or as many of its first bytes.
 pub struct Part {
     pub text: &'static str,
@@ -657,7 +757,7 @@ pub struct WrittenTrouble {
     pub place: usize,
 }
 
-pub const TROUBLES: [WrittenTrouble; 14] = [
+pub const TROUBLES: [WrittenTrouble; 19] = [
     WrittenTrouble {
         name: "an empty log",
         logs: &[EMPTY],
@@ -742,21 +842,55 @@ pub const TROUBLES: [WrittenTrouble; 14] = [
         number: 20,
         place: 1,
     },
+    WrittenTrouble {
+        name: "mode 1 after kind 1",
+        logs: &[GOOD, MODE_1],
+        number: 40,
+        place: 1,
+    },
+    WrittenTrouble {
+        name: "kind 1 after mode 1",
+        logs: &[MODE_1, MODE_1, GOOD],
+        number: 40,
+        place: 2,
+    },
+    WrittenTrouble {
+        name: "mode 1 after both kinds of mode 0",
+        logs: &[GOOD, MODE_0, GOOD, MODE_1],
+        number: 40,
+        place: 3,
+    },
+    WrittenTrouble {
+        name: "mode 1 in a log of nothing else: 40 comes first",
+        logs: &[MODE_0, MODE_1_ALONE],
+        number: 40,
+        place: 1,
+    },
+    WrittenTrouble {
+        name: "mode 0 in a log of nothing else, after kind 1: no other setup",
+        logs: &[GOOD, MODE_0_ALONE],
+        number: 27,
+        place: 1,
+    },
 ];
 
 const GOOD: Part = whole(GOOD_TEXT);
 const OTHER_M: Part = whole(OTHER_M_TEXT);
 const OTHER_PRIORITY: Part = whole(OTHER_PRIORITY_TEXT);
 const ONE_TASK_MORE: Part = whole(ONE_TASK_MORE_TEXT);
+const MODE_0: Part = whole(MODE_0_TEXT);
+const MODE_1: Part = whole(MODE_1_TEXT);
 
-// Two tasks make a setup of 4 + 2 + 2 * 8 = 22 bytes; with an arrival, 4 + 5, that is 31, and with
-// an end, 4 + 4, it is 39.
+// Two tasks make a setup of 4 + 2 + 2 * 8 = 22 bytes, or 23 with a mode; with an arrival, 4 + 5,
+// that is 31, and with an end, 4 + 4, it is 39.
 const EMPTY: Part = first(0, GOOD_TEXT);
 const SETUP_CUT_OFF: Part = first(21, OTHER_M_TEXT);
 const OTHER_M_ALONE: Part = first(22, OTHER_M_TEXT);
 const OTHER_M_CUT_OFF: Part = first(30, OTHER_M_TEXT);
 const NO_END: Part = first(31, GOOD_TEXT);
 const CUT_OFF: Part = first(38, GOOD_TEXT);
+const MODE_0_ALONE: Part = first(23, MODE_0_TEXT);
+const MODE_1_ALONE: Part = first(23, MODE_1_TEXT);
 
 const fn whole(text: &'static str) -> Part {
     first(usize::MAX, text)
@@ -768,6 +902,22 @@ const fn first(bytes: usize, text: &'static str) -> Part {
 
 const GOOD_TEXT: &str = "\
 setup 2
+task 10 100 2
+task 20 100 1
+0 arrive 0
+end
+";
+
+const MODE_0_TEXT: &str = "\
+setup 2 mode 0
+task 10 100 2
+task 20 100 1
+0 arrive 0
+end
+";
+
+const MODE_1_TEXT: &str = "\
+setup 2 mode 1
 task 10 100 2
 task 20 100 1
 0 arrive 0

@@ -6,12 +6,13 @@ use std::io::{self, Cursor, Read, Write};
 
 use crate::damage::{make, DAMAGES};
 use crate::expected::{Expected, Given};
+use crate::first_records::{mode_records, second_setups};
 use crate::folder::Folder;
 use crate::input::{open, STANDARD_INPUT};
 use crate::other::{first_difference, Feeding};
-use crate::random::{log_of_waits, Random, Size};
+use crate::random::{log_of_waits, Random, Shape};
 use crate::report::{sheet, Onlooker};
-use crate::rules::Refusal;
+use crate::rules::{Refusal, DEADLINE, FIXED_PRIORITY};
 use crate::score::Score;
 use crate::seasons::{season, GOOD, OTHER_SETUPS};
 use crate::sheet_counts::SheetCounts;
@@ -38,6 +39,7 @@ pub fn sheets(program: &[OsString], report: &mut impl Write) -> io::Result<bool>
     };
     comparison.written_lists()?;
     comparison.written_troubles()?;
+    comparison.bad_records()?;
     comparison.seasons()?;
     comparison.cuts()?;
     comparison.standard_input()?;
@@ -101,6 +103,18 @@ impl<W: Write> Comparison<'_, W> {
         Ok(())
     }
 
+    /// First records of kind 7 that are no good setup, and second setups, each the only log.
+    fn bad_records(&mut self) -> io::Result<()> {
+        for record in mode_records().into_iter().chain(second_setups()) {
+            let names = self.folder.put(&[&record.bytes])?;
+            let found = sheet(&names, open, &mut ()).err();
+            let found = found.and_then(|trouble| trouble.refusal());
+            self.score.book_bad(record.what, record.number, found)?;
+            self.list(record.what, &names)?;
+        }
+        Ok(())
+    }
+
     /// Random lists: good ones, ones with every kind of damage, and ones in which a setup differs
     /// in every way. Of these last ones, each must end with 40.
     fn seasons(&mut self) -> io::Result<()> {
@@ -115,10 +129,11 @@ impl<W: Write> Comparison<'_, W> {
         for ((kind, _), first_seed) in OTHER_SETUPS.iter().zip((50_000..).step_by(1001)) {
             for seed in (first_seed..).take(OTHER_SETUP_SEEDS) {
                 let names = self.season(seed, kind)?;
-                let ours = sheet(&names, open, &mut ());
-                let differ = matches!(ours, Err(Trouble::Bad(Refusal::SetupsDiffer, _)));
+                let found = sheet(&names, open, &mut ()).err();
+                let found = found.and_then(|trouble| trouble.refusal());
+                let number = Refusal::SetupsDiffer.number();
                 self.score
-                    .book(differ, &format!("season {seed} {kind}: not 40"))?;
+                    .book_bad(&format!("season {seed} {kind}"), number, found)?;
             }
         }
         Ok(())
@@ -152,11 +167,11 @@ impl<W: Write> Comparison<'_, W> {
         let feedings = [Feeding::AtOnce, Feeding::InPieces(73), Feeding::InPieces(5)];
         let ways = kinds.into_iter().cycle().zip(feedings.into_iter().cycle());
         for (seed, (kind, feeding)) in (7000..7042).zip(ways) {
-            let size = Size {
+            let shape = Shape {
                 events: 60,
-                ..Size::of_seed(31 * seed)
+                ..Shape::of_seed(31 * seed)
             };
-            let log = make(seed, kind, size).unwrap_or_default();
+            let log = make(seed, kind, shape).unwrap_or_default();
             self.input(&format!("make {seed} {kind} as input"), &log, feeding)?;
         }
         Ok(())
@@ -299,13 +314,13 @@ impl<W: Write> Comparison<'_, W> {
 
     /// Large logs, the last of them with more events than a session accepts; and very many logs.
     fn large_lists(&mut self) -> io::Result<()> {
-        for (processors, tasks) in [(2, 4), (16, 64)] {
-            let size = Size::new(processors, tasks, 50_000);
-            let log = make(3000, "busy", size).unwrap_or_default();
+        for (processors, tasks, mode) in [(2, 4, FIXED_PRIORITY), (16, 64, DEADLINE)] {
+            let shape = Shape::new(processors, tasks, 50_000).in_mode(mode);
+            let log = make(3000, "busy", shape).unwrap_or_default();
             let names = self.folder.put(&[&log, &log])?;
             self.list(&format!("a large log twice, n {tasks}"), &names)?;
         }
-        let log = make(4000, "full", Size::new(2, 4, 200)).unwrap_or_default();
+        let log = make(4000, "full", Shape::new(2, 4, 200)).unwrap_or_default();
         let names = self.folder.put(&[log])?;
         self.list("a full session", &names)?;
         let names = self.folder.put(&[&self.example; 365])?;

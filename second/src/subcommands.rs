@@ -9,8 +9,8 @@ use std::str::FromStr;
 use crate::ending::{Run, Stop};
 use crate::input::{open, STANDARD_INPUT};
 use crate::output::{in_lines, in_pieces, print};
-use crate::random::Size;
-use crate::rules::{MOST_PROCESSORS, MOST_TASKS};
+use crate::random::Shape;
+use crate::rules::{DEADLINE, FIXED_PRIORITY, MOST_PROCESSORS, MOST_TASKS};
 use crate::trouble::{bad_line, Trouble};
 use crate::{bench, compare, damage, lines, report, seasons, sheets, slowly, sum, sums, text};
 
@@ -55,7 +55,7 @@ pub const SUBCOMMANDS: [Subcommand; 12] = [
     },
     Subcommand {
         name: "make",
-        words: "SEED KIND [EVENTS [M N]] > LOG",
+        words: "SEED KIND [EVENTS [M N [MODE]]] > LOG",
         does: "makes a random log",
         run: make,
     },
@@ -86,7 +86,8 @@ pub const SUBCOMMANDS: [Subcommand; 12] = [
     Subcommand {
         name: "bench",
         words: "REPLAY REPORT",
-        does: "times another replay program against this one, and its report program beside it",
+        does:
+            "times another replay program against this one, and its report program, in both modes",
         run: |words| {
             let [replay, report] = program(words)? else {
                 return Err(Stop::Called("REPLAY and REPORT are wanted".to_string()));
@@ -113,9 +114,21 @@ pub fn usage_of(subcommand: &Subcommand) -> String {
     let mut usage = format!("use: {}\n", subcommand.call());
     usage.push_str(&format!("It {}.\n", subcommand.does));
     match subcommand.name {
-        "replay" | "report" | "sum" | "log" | "text" => usage.push_str(INPUT_AND_STATUS),
-        "make" => usage.push_str(&format!("KIND: {}\n", log_kinds())),
-        "season" => usage.push_str(&format!("KIND: {}\n", season_kinds())),
+        "replay" | "report" | "sum" => usage.push_str(INPUT_AND_STATUS),
+        "log" | "text" => {
+            usage.push_str(INPUT_AND_STATUS);
+            usage.push_str(&mode_of_text());
+            usage.push_str(MODES);
+        }
+        "make" => {
+            usage.push_str(&format!("KIND: {}\n", log_kinds()));
+            usage.push_str(MODE_OF_LOG);
+            usage.push_str(MODES);
+        }
+        "season" => {
+            usage.push_str(&format!("KIND: {}\n", season_kinds()));
+            usage.push_str(MODE_OF_SEASON);
+        }
         _ => {}
     }
     usage
@@ -137,6 +150,10 @@ pub fn usage() -> String {
     usage.push_str(INPUT_AND_STATUS);
     usage.push_str(&format!("KIND of a log: {}\n", log_kinds()));
     usage.push_str(&format!("KIND of a season: {}\n", season_kinds()));
+    usage.push_str(MODE_OF_LOG);
+    usage.push_str(MODE_OF_SEASON);
+    usage.push_str(&mode_of_text());
+    usage.push_str(MODES);
     usage
 }
 
@@ -145,9 +162,20 @@ Without a name, and where the name is -, it reads standard input; a file of that
 Status: 0 good; 1 the log is bad, or something could not be read or written; 2 called wrongly
 ";
 
+const MODES: &str = "MODE: 0 fixed priority, 1 deadline\n";
+const MODE_OF_LOG: &str = "A log without a MODE has the one that goes with the seed\n";
+const MODE_OF_SEASON: &str = "\
+A season has the mode that goes with the seed; in mode 0 its setups are of kind 1 or of kind 7
+";
+
+fn mode_of_text() -> String {
+    let setup = text::SETUP;
+    format!("A text begins with `{setup}`: its setup is of kind 7 with a MODE, else of kind 1\n")
+}
+
 fn log_kinds() -> String {
     let damages = damage::DAMAGES.map(|(name, _)| name).join(" ");
-    format!("good busy full flock deferred {damages}")
+    format!("good kind-7 busy full flock deferred {damages}")
 }
 
 fn season_kinds() -> String {
@@ -284,31 +312,34 @@ fn text(words: &[OsString]) -> Run {
 }
 
 fn make(words: &[OsString]) -> Run {
-    let words = in_text(plain_words(words, 5)?)?;
+    let words = in_text(plain_words(words, 6)?)?;
     let log = make_of_words(&words).ok_or_else(not_understood)?;
     print(&log)?;
     Ok(true)
 }
 
-/// The log asked for; nothing if a word is not understood or a size is not allowed.
+/// The log asked for; nothing if a word is not understood or a number is not allowed.
 fn make_of_words(words: &[&str]) -> Option<Vec<u8>> {
     let [seed, kind, words @ ..] = words else {
         return None;
     };
     let seed: u64 = number(seed, 0, u64::MAX)?;
-    let mut size = Size::of_seed(seed);
+    let mut shape = Shape::of_seed(seed);
     if let Some(events) = words.first() {
-        size.events = number(events, 0, 10_000_000)?;
+        shape.events = number(events, 0, 10_000_000)?;
     }
     match words {
         [] | [_] => {}
-        [_, processors, tasks] => {
-            size.processors = number(processors, 1, MOST_PROCESSORS)?;
-            size.tasks = number(tasks, 1, MOST_TASKS as u8)?;
+        [_, processors, tasks, mode @ ..] => {
+            shape.processors = number(processors, 1, MOST_PROCESSORS)?;
+            shape.tasks = number(tasks, 1, MOST_TASKS as u8)?;
+            if let Some(mode) = mode.first() {
+                shape.mode = number(mode, FIXED_PRIORITY, DEADLINE)?;
+            }
         }
         _ => return None,
     }
-    damage::make(seed, kind, size)
+    damage::make(seed, kind, shape)
 }
 
 /// Writes the logs of a season as 1.log, 2.log and so on.

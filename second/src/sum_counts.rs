@@ -2,12 +2,13 @@
 
 use std::io::{self, Write};
 
-use crate::counts::{add, count, least, print_classes, Class, Counts};
-use crate::log::{Fault, LogReader, END, HEAD, TASK};
+use crate::counts::{add, count, least, print_classes, setup_in_words, Class, Counts, SETUPS};
+use crate::damage::setup_bytes;
+use crate::log::{Fault, LogReader, END, HEAD};
 use crate::rules::{Refusal, Setup, Task, LONGEST_PERIOD};
 
 /// The numbers that a first record can be refused with.
-const REFUSALS: [u8; 10] = [10, 11, 12, 13, 20, 21, 22, 23, 24, 27];
+const REFUSALS: [u8; 11] = [10, 11, 12, 13, 14, 20, 21, 22, 23, 24, 27];
 
 /// Of two of them, what must come up besides: where in the record, and by what record.
 const PLACES: [&str; 4] = [
@@ -77,8 +78,9 @@ impl Asked<'_> {
 pub struct SumCounts {
     refusals: Counts<u8>,
     came_up: Counts<&'static str>,
-    /// Answers, by n.
+    /// Answers, by n, and by what their setup is.
     tasks: Counts<usize>,
+    setups: Counts<&'static str>,
     /// Runs, by the way in which the log was given.
     ways: Counts<&'static str>,
 }
@@ -88,11 +90,15 @@ impl SumCounts {
     pub fn book(&mut self, length: u32, log: &[u8], way: &'static str) {
         add(&mut self.ways, way);
         match LogReader::open(log) {
-            Ok((setup, _)) => self.book_answer(&Asked {
-                setup: &setup,
-                length,
-                rest: log.len() - (HEAD + 2 + TASK * setup.tasks.len()),
-            }),
+            Ok((setup, events)) => {
+                let words = setup_in_words(events.setup_kind(), setup.mode);
+                add(&mut self.setups, words);
+                self.book_answer(&Asked {
+                    setup: &setup,
+                    length,
+                    rest: log.len() - setup_bytes(log),
+                });
+            }
             Err(Fault::Bad(refusal)) => self.book_bad(refusal, log),
             Err(Fault::Unreadable(_)) => {}
         }
@@ -134,11 +140,16 @@ impl SumCounts {
             .iter()
             .map(|way| Class::new(*way, count(&self.ways, *way), 5));
         let tasks = Class::once("answers for each n from 1 to 64", least(&self.tasks, 64));
+        let setups = SETUPS.map(|words| {
+            let what = format!("answers for {words}");
+            Class::new(what, count(&self.setups, words), 10)
+        });
         refusals
             .into_iter()
             .chain(cases)
             .chain(ways)
             .chain([tasks])
+            .chain(setups)
             .collect()
     }
 

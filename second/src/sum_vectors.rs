@@ -4,7 +4,7 @@
 //! A comment gives what each task adds to the sums of the others: transactions per job × (⌊length
 //! / period⌋ + 2).
 
-use crate::vectors::WHOLE_TEXT;
+use crate::vectors::{WHOLE_IN_MODE_0_TEXT, WHOLE_IN_MODE_1_TEXT, WHOLE_TEXT};
 
 /// A setup in readable text, a length, and the answer.
 pub struct WrittenSum {
@@ -21,7 +21,7 @@ const fn sum(text: &'static str, length: u32, answer: &'static str) -> WrittenSu
     }
 }
 
-pub const SUMS: [WrittenSum; 19] = [
+pub const SUMS: [WrittenSum; 22] = [
     // 2 × 2 = 4, 1 × 2 = 2, 1 × 2 = 2.
     sum(WHOLE_TEXT, 4, "length 4\ntask sum\n0 4\n1 6\n2 6\n"),
     sum(WHOLE_TEXT, 0, "length 0\ntask sum\n0 4\n1 6\n2 6\n"),
@@ -35,6 +35,18 @@ pub const SUMS: [WrittenSum; 19] = [
     sum(WHOLE_TEXT, 100, "length 100\ntask sum\n0 7\n1 9\n2 10\n"),
     // 2 × (42,949,672 + 2), 85,899,345 + 2, 53,687,091 + 2.
     sum(WHOLE_TEXT, 4_294_967_295, WHOLE_LARGEST),
+    // The same with a mode.
+    sum(
+        WHOLE_IN_MODE_0_TEXT,
+        99,
+        "length 99\ntask sum\n0 6\n1 7\n2 7\n",
+    ),
+    sum(
+        WHOLE_IN_MODE_1_TEXT,
+        100,
+        "length 100\ntask sum\n0 7\n1 9\n2 10\n",
+    ),
+    sum(WHOLE_IN_MODE_1_TEXT, 4_294_967_295, WHOLE_LARGEST),
     // Nobody else adds anything.
     sum(ONE_TEXT, 0, "length 0\ntask sum\n0 0\n"),
     sum(

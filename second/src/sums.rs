@@ -5,13 +5,14 @@ use std::fmt::Write as _;
 use std::fs::{self, File};
 use std::io::{self, Write};
 
+use crate::damage::{say_mode, setup_bytes};
 use crate::expected::{Expected, Given};
 use crate::first_records::first_records;
 use crate::folder::Folder;
 use crate::input::STANDARD_INPUT;
-use crate::log::{write_setup, HEAD, TASK};
+use crate::log::{write_setup, HEAD};
 use crate::other::{first_difference, Feeding};
-use crate::random::{log_of_setup, mixed_setup, Behaviour, Random, Size};
+use crate::random::{log_of_setup, mixed_setup, Behaviour, Random, Shape};
 use crate::rules::{Refusal, Setup, MOST_TASKS};
 use crate::score::Score;
 use crate::sum::answer_of_log;
@@ -19,7 +20,7 @@ use crate::sum_counts::SumCounts;
 use crate::sum_vectors::{BAD_LENGTHS, GOOD_LENGTHS, MOST_TASKS_LINE, MOST_TASKS_SUM, SUMS};
 use crate::text::log_of_text;
 use crate::trouble::Trouble;
-use crate::vectors::WHOLE_TEXT;
+use crate::vectors::{WHOLE_IN_MODE_1_TEXT, WHOLE_TEXT};
 
 /// The ways in which a log is given to the other program.
 const WAYS: [&str; 5] = [
@@ -101,11 +102,6 @@ fn written(text: &str) -> Vec<u8> {
     log_of_text(text.as_bytes()).expect("the texts written down are logs")
 }
 
-/// How many bytes the setup has that this log begins with.
-fn setup_bytes(log: &[u8]) -> usize {
-    HEAD + 2 + TASK * usize::from(log[HEAD + 1])
-}
-
 impl<W: Write> Comparison<'_, W> {
     /// The setups written down with their sums: this program is held to those sums first.
     fn written_sums(&mut self) -> io::Result<()> {
@@ -135,8 +131,8 @@ impl<W: Write> Comparison<'_, W> {
 
     /// A task that is not below n has no sum. No program prints one: this one is held to it alone.
     fn bad_tasks(&mut self) -> io::Result<()> {
-        let size = Size::new(2, 3, 0);
-        let setup = mixed_setup(&mut Random::new(0), size);
+        let shape = Shape::new(2, 3, 0);
+        let setup = mixed_setup(&mut Random::new(0), shape);
         for task in [3, 255] {
             let refused = setup.sum(task, 4) == Err(Refusal::TaskNotBelowN);
             self.score
@@ -146,15 +142,19 @@ impl<W: Write> Comparison<'_, W> {
     }
 
     /// Random setups for every n, and some more, with lengths of each sort and with each sort of
-    /// bytes behind the setup.
+    /// bytes behind the setup. Of each four, two have mode 1, and one has kind 7 and mode 0.
     fn random_setups(&mut self) -> io::Result<()> {
         let more = (65..81u8).map(|seed| (seed, 2 + 4 * (seed - 65)));
         let sizes = (1..=64).map(|tasks| (tasks, tasks)).chain(more);
         for ((seed, tasks), way) in sizes.zip(IN_TURN.into_iter().cycle()) {
             let mut random = Random::new(9000 + u64::from(seed));
-            let setup = mixed_setup(&mut random, Size::new(1 + seed % 16, tasks, 0));
+            let shape = Shape::new(1 + seed % 16, tasks, 0).in_mode(seed / 4 % 2);
+            let setup = mixed_setup(&mut random, shape);
             let length = some_length(&mut random, &setup, seed % 6);
-            let log = some_log(&mut random, &setup, seed % 4);
+            let mut log = some_log(&mut random, &setup, seed % 4);
+            if seed / 8 % 2 == 0 {
+                say_mode(&mut log);
+            }
             self.log(&format!("random setup {seed}"), length, &log, way)?;
         }
         Ok(())
@@ -165,21 +165,23 @@ impl<W: Write> Comparison<'_, W> {
         let ways = IN_TURN.into_iter().cycle();
         for ((length, record), way) in (0..).zip(first_records()).zip(ways) {
             let found = answer_of_log(length, &record.bytes[..]).err();
-            let found = found.and_then(|fault| fault.refusal().map(Refusal::number));
-            let what = format!("{}: not {} but {found:?}", record.what, record.number);
-            self.score.book(found == Some(record.number), &what)?;
+            let found = found.and_then(|fault| fault.refusal());
+            self.score.book_bad(record.what, record.number, found)?;
             self.log(record.what, length, &record.bytes, way)?;
         }
         Ok(())
     }
 
-    /// 01's setup, cut at each of its bytes.
+    /// 01's setup in kind 1 and in kind 7, cut at each of its bytes.
     fn cuts(&mut self) -> io::Result<()> {
         let example = self.example.clone();
-        let ways = IN_TURN.into_iter().cycle();
-        for (length, way) in (0..=setup_bytes(&example)).zip(ways) {
-            let what = format!("the first {length} bytes of 01's setup");
-            self.log(&what, 4, &example[..length], way)?;
+        let with_mode = written(WHOLE_IN_MODE_1_TEXT);
+        for (log, kind) in [(example, 1), (with_mode, 7)] {
+            let ways = IN_TURN.into_iter().cycle();
+            for (length, way) in (0..=setup_bytes(&log)).zip(ways) {
+                let what = format!("the first {length} bytes of 01's setup in kind {kind}");
+                self.log(&what, 4, &log[..length], way)?;
+            }
         }
         Ok(())
     }
@@ -211,16 +213,16 @@ impl<W: Write> Comparison<'_, W> {
         let setup = setup_bytes(&example);
         let mut bad = example[..setup].to_vec();
         bad[HEAD] = 0;
-        let most = written(&format!(
-            "setup 1\n{}end\n",
-            MOST_TASKS_LINE.repeat(MOST_TASKS)
-        ));
+        let tasks = MOST_TASKS_LINE.repeat(MOST_TASKS);
+        let most = written(&format!("setup 1 mode 1\n{tasks}end\n"));
+        let with_mode = written(WHOLE_IN_MODE_1_TEXT);
         let all = 4096;
         let logs = [
             (&example[..setup], all),
             (&example[..setup], 1),
             (&example[..setup + 1], all),
             (&example[..setup + 6], 7),
+            (&with_mode[..setup_bytes(&with_mode)], all),
             (&most[..setup_bytes(&most)], 100),
             (&bad[..], all),
         ];

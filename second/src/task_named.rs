@@ -2,20 +2,20 @@
 //! another reading of request CR 3 could name.
 
 use crate::cases::{Case, Cases};
-use crate::rules::{Answer, Outcome, Session, Transaction};
+use crate::rules::{Answer, Outcome, Session, Transaction, FIXED_PRIORITY};
 
 /// A release that waits: the task named, and every other one that executes or waits just before
 /// the scan.
 pub struct TaskNamed {
     number: u8,
-    priority: u16,
+    urgency: i64,
     others: Vec<Other>,
 }
 
 /// A task, not the releasing one, that executes or waits just before the scan.
 struct Other {
     number: u8,
-    priority: u16,
+    urgency: i64,
     executing: bool,
     /// Whether its transaction clashes with the released one.
     clashing: bool,
@@ -37,14 +37,14 @@ impl TaskNamed {
         };
         // A release's own scan never admits it, so that it is still among the waiting ones.
         let (_, released) = session.waiting().find(|(number, _)| *number == task)?;
-        let priority = |number: u8| session.setup().tasks[usize::from(number)].priority;
+        let urgency = |number: u8| urgency(session, number);
         let other = |executing: bool, (number, transaction): (u8, &Transaction)| {
             let mut admissions = outcome.admitted.iter();
             let admitted = admissions.any(|admission| admission.task == number);
             let Transaction { reads, writes } = transaction;
             Other {
                 number,
-                priority: priority(number),
+                urgency: urgency(number),
                 // One that the scan admits was waiting before it.
                 executing: executing && !admitted,
                 clashing: transaction.clashes_with(released),
@@ -57,7 +57,7 @@ impl TaskNamed {
         let others = executing.chain(waiting);
         Some(TaskNamed {
             number: highest,
-            priority: priority(highest),
+            urgency: urgency(highest),
             others: others.filter(|other| other.number != task).collect(),
         })
     }
@@ -74,24 +74,24 @@ impl TaskNamed {
             .iter()
             .filter(|other| holds(other))
             .any(|other| {
-                other.priority > self.priority
-                    || (other.priority == self.priority && other.number < self.number)
+                other.urgency > self.urgency
+                    || (other.urgency == self.urgency && other.number < self.number)
             })
     }
 
-    /// Whether the released transaction clashes with executing ones of different priority.
-    fn of_different_priority(&self) -> bool {
+    /// Whether the released transaction clashes with executing ones of different urgency.
+    fn of_different_urgency(&self) -> bool {
         let mut clashing = self.clashing_executing();
         let first = clashing.next();
-        first.is_some_and(|first| clashing.any(|other| other.priority != first.priority))
+        first.is_some_and(|first| clashing.any(|other| other.urgency != first.urgency))
     }
 
-    /// Whether several of the executing ones that it clashes with have the highest priority of
+    /// Whether several of the executing ones that it clashes with have the highest urgency of
     /// all of these.
     fn number_decides(&self) -> bool {
-        let priorities = || self.clashing_executing().map(|other| other.priority);
-        let highest = priorities().max();
-        let having_it = priorities().filter(|priority| Some(*priority) == highest);
+        let urgencies = || self.clashing_executing().map(|other| other.urgency);
+        let highest = urgencies().max();
+        let having_it = urgencies().filter(|urgency| Some(*urgency) == highest);
         having_it.count() > 1
     }
 
@@ -103,14 +103,28 @@ impl TaskNamed {
     }
 }
 
+/// What a present task ranks by before its number, the larger the higher: its priority, or how
+/// early its deadline is.
+fn urgency(session: &Session, number: u8) -> i64 {
+    let setup = session.setup();
+    let task = &setup.tasks[usize::from(number)];
+    match setup.mode {
+        FIXED_PRIORITY => task.priority.into(),
+        _ => {
+            let arrival = session.last_arrival(number).unwrap_or(0);
+            -(i64::from(arrival) + i64::from(task.period))
+        }
+    }
+}
+
 impl Cases for TaskNamed {
     const CASES: &'static [Case<TaskNamed>] = &[
         (
-            "clashing executing ones of different priority",
-            TaskNamed::of_different_priority,
+            "clashing executing ones of different priority or deadline",
+            TaskNamed::of_different_urgency,
         ),
         (
-            "several clashing executing ones of the highest priority",
+            "several clashing executing ones of the highest priority or earliest deadline",
             TaskNamed::number_decides,
         ),
         (

@@ -22,6 +22,14 @@ impl Trouble {
             Fault::Unreadable(error) => Trouble::Unreadable(error, name),
         }
     }
+
+    /// The refusal of a log that is bad.
+    pub fn refusal(&self) -> Option<Refusal> {
+        match self {
+            Trouble::Bad(refusal, _) => Some(*refusal),
+            Trouble::Unreadable(..) => None,
+        }
+    }
 }
 
 /// The one line for a log that reads badly or has another setup. The name's bytes are unchanged.

@@ -19,7 +19,7 @@ use Rattle.rules.specs.History.{Call, tasksOf, heard}
 use Rattle.rules.specs.Demand3.{Run, begun, called}
 use Rattle.rules.proofs.Laws.Listed.{tasks-more}
 use Rattle.rules.proofs.Ranking.{rank-strict-and-stays}
-use Rattle.rules.proofs.Demand3.{fresh-starts, once-running, held-back, waits-counted, admitted-counted, bounded, admitted-within, running-apart, as-told}
+use Rattle.rules.proofs.Demand3.{fresh-starts, once-running, held-back, waits-counted, admitted-counted, bounded, admitted-within, running-apart, as-told, ranked-as-said}
 use Rattle.rules.proofs.Ended.{waits-end}
 use Rattle.machine.specs.Events.{Outcome, stepIn}
 use Rattle.machine.specs.Holds.{Holds}
@@ -94,5 +94,6 @@ demands u w size good w′ calls r =
         apart = running-apart byRank strict stays (fresh u) s calls begins run .0;
         few = running-apart byRank strict stays (fresh u) s calls begins run .1;
         told = as-told byRank strict stays (fresh u) s calls begins run;
+        ranks = ranked-as-said byRank strict stays (fresh u) s calls begins run;
       },
     )

@@ -15,7 +15,7 @@ use Rattle.rules.specs.Tasks.{waiting, executing}
 use Rattle.rules.specs.Setup.{setupNumber, fresh, start}
 use Rattle.rules.specs.Events.{step}
 use Rattle.rules.specs.History.{Call, lasted, admittedAt}
-use Rattle.rules.specs.Demand3.{RunsOn, Held, WaitsCount, AdmissionsCount, Within, AdmissionsWithin, Apart, Told}
+use Rattle.rules.specs.Demand3.{RunsOn, Held, WaitsCount, AdmissionsCount, Within, AdmissionsWithin, Apart, Told, RanksAsSaid}
 use Rattle.machine.specs.Events.{Outcome, stepIn}
 use Rattle.machine.specs.Opened.{opened}
 use Rattle.machine.specs.Holds.{Holds}
@@ -65,6 +65,8 @@ pub record Promised (from s : Session) (w : List ℕ) (calls : List Call) : Type
   pub few : count (s .n) (executing s) ≤ s .m
   -- history says what the session says
   pub told : (i : ℕ) → i < s .n → Told from s calls i
+  -- who ranks above whom, of the jobs that are present, is what the mode's own wording says
+  pub ranks : RanksAsSaid s
 
 -- 'Over any run of calls from a fresh setup'
 abbrev pub Demands : Type 0

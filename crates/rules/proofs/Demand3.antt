@@ -1,5 +1,5 @@
 -- Demand 3, proved. Everything but the first theorem is read off what is known at every place of a run; the first is an induction over the further calls.
-use Prim.Native.Nat.{ℕ, _≤_, _<_}
+use Prim.Native.Nat.{ℕ, _+_, _-_, _≤_, _<_}
 use mathlib.Core.Path.{_≡_, refl, sym, ap, subst, _∙_}
 use mathlib.Core.Logic.{inl, inr, _≢_}
 use mathlib.Core.List.{List, _∷_}
@@ -17,6 +17,7 @@ use Rattle.rules.specs.declared.Wait.{Wait}
 use Rattle.rules.specs.declared.State.{State}
 use Rattle.rules.specs.declared.State.the-variants.{Absent, Plain, Waiting, Executing}
 use Rattle.rules.specs.declared.Arrival.the-variants.{At}
+use Rattle.rules.specs.declared.Terms.{Terms}
 use Rattle.rules.specs.declared.Task.{Task}
 use Rattle.rules.specs.declared.Session.{Session}
 use Rattle.rules.specs.declared.Event.{Event}
@@ -24,7 +25,7 @@ use Rattle.rules.specs.declared.Said.{Said}
 use Rattle.rules.specs.declared.Admission.{Admission}
 use Rattle.rules.specs.declared.Answer.{Answer}
 use Rattle.rules.specs.Answers.{number}
-use Rattle.rules.specs.Ranking.{Ranking, Ranked, Strict, Stays}
+use Rattle.rules.specs.Ranking.{Ranking, byDeadline, jobRank, Ranked, Strict, Stays}
 use Rattle.rules.specs.Tasks.{isAbsent, isWaiting, isExecuting, allowed, known, taskAt, stateAt, executing, setsAt}
 use Rattle.rules.specs.Room.{ran}
 use Rattle.rules.specs.Events.{raisedState, raisedTask, step}
@@ -32,7 +33,7 @@ use Rattle.rules.specs.Scan.{noAdmission, admission}
 use Rattle.rules.specs.Sum.{share, bound, summed}
 use Rattle.rules.specs.Reachable.{Sound}
 use Rattle.rules.specs.History.{Call, heard, commits, waitLength, during, passes, passed, reruns, retried}
-use Rattle.rules.specs.Demand3.{Run, begun, called, SameSets, FreshStarts, RunSound, ClashesFit, commitsIn, OnceRunning, HeldBack, Counted, WaitsCounted, AdmittedCounted, Bounded, AdmittedWithin, RunningApart, AsTold, presentAt, JobStays, RankStays, RankedAsSaid}
+use Rattle.rules.specs.Demand3.{Run, begun, called, SameSets, FreshStarts, RunSound, ClashesFit, commitsIn, OnceRunning, HeldBack, Counted, WaitsCounted, AdmittedCounted, Bounded, AdmittedWithin, RunningApart, AsTold, presentAt, JobStays, RankStays, RankedAsSaid, RankFits}
 use Rattle.rules.proofs.Laws.Numbers.{allowed-is}
 use Rattle.rules.proofs.Laws.Keeping.{kept-sets}
 use Rattle.rules.proofs.Laws.Listed.{Settled, Each}
@@ -269,3 +270,26 @@ ranked-as-said rank strict stays start s calls begins run i j a b li lj here the
     ranks i a l here at-a =
         let job = sound .present i l (not-true (isAbsent (stateAt s i)) here) in
         rw (same-tick (job .0) a (sym (job .1) ∙ at-a)) (job .2)
+
+-- in each mode: the last tick and the longest period together, or the largest priority
+most : (mode a : ℕ) (t : Terms) → a ≤ 4294967295 → t .period ≤ 86400000 → jobRank mode t a ≤ 4381367295
+unfolding jobRank
+most mode a t l p = go (byDeadline mode)
+  where
+    go : (b : Bool) → cond b (a + t .period) (65535 - t .priority) ≤ 4381367295
+    go true = omega arith
+    go false = omega arith
+
+pub rank-fits : RankFits
+rank-fits rank strict stays start s calls begins run i l last = go (isAbsent (stateAt s i)) refl
+  where
+    sound : Sound rank s
+    sound = run-sound rank strict stays start s calls begins run
+
+    go : (b : Bool) → isAbsent (stateAt s i) ≡ b → taskAt s i .rank ≤ 4381367295
+    go true e = omega (arith, sound .gone i l e .1)
+    go false e =
+        let job = sound .present i l e in
+        rw (job .2)
+        (most (s .mode) (job .0) (taskAt s i .terms) (le-trans (sound .arrivals i (job .0) l (job .1)) last)
+        (period-bounds (taskAt s i .terms) (sound .terms i l) .1))

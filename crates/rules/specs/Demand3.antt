@@ -195,3 +195,7 @@ RanksAsSaid s =
 
 abbrev pub RankedAsSaid : Type 0
 RankedAsSaid = InEveryRun (λ rank start s calls. RanksAsSaid s)
+
+-- A deadline goes up to 4,381,367,295, past the last tick: so far goes every rank of a run, and no further, so that none is ever cut.
+abbrev pub RankFits : Type 0
+RankFits = InEveryRun (λ rank start s calls. (i : ℕ) → i < s .n → s .tick ≤ 4294967295 → taskAt s i .rank ≤ 4381367295)

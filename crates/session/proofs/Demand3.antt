@@ -17,7 +17,7 @@ use Rattle.rules.specs.Events.{step}
 use Rattle.rules.specs.History.{Call, heard}
 use Rattle.rules.specs.Demand3.{Run, begun, called, AdmissionsCount, AdmissionsWithin}
 use Rattle.rules.proofs.Ranking.{rank-strict-and-stays}
-use Rattle.rules.proofs.Demand3.{fresh-starts, once-running, held-back, waits-counted, admitted-counted, bounded, admitted-within, running-apart, as-told}
+use Rattle.rules.proofs.Demand3.{fresh-starts, once-running, held-back, waits-counted, admitted-counted, bounded, admitted-within, running-apart, as-told, ranked-as-said}
 use Rattle.rules.proofs.Ended.{waits-end}
 use Rattle.session.specs.Demand3.{Answered, arrives, releases, commits, finishes, steps, Calls, none, then, Holds, Demand3}
 
@@ -70,4 +70,5 @@ demand3 u started p z s calls r =
       apart = running-apart byRank strict stays (fresh u) s calls begins whole .0;
       few = running-apart byRank strict stays (fresh u) s calls begins whole .1;
       told = as-told byRank strict stays (fresh u) s calls begins whole;
+      ranks = ranked-as-said byRank strict stays (fresh u) s calls begins whole;
     })

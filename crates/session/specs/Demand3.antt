@@ -21,7 +21,7 @@ use Rattle.rules.specs.Events.{arrive, release, commit, finish, step}
 use Rattle.rules.specs.Sum.{summed}
 use Rattle.rules.specs.Cases.{plainEvent, releaseOf}
 use Rattle.rules.specs.History.{Call, heard, lasted, admittedAt, waitLength, passed}
-use Rattle.rules.specs.Demand3.{RunsOn, Held, WaitsCount, AdmissionsCount, AdmissionsWithin, Apart, Told}
+use Rattle.rules.specs.Demand3.{RunsOn, Held, WaitsCount, AdmissionsCount, AdmissionsWithin, Apart, Told, RanksAsSaid}
 
 -- an answer to a call of one of the functions, with the event that it was asked for
 pub data Answered (s : Session) : Event → Answer → Type 0 where
@@ -58,6 +58,8 @@ pub record Holds (from s : Session) (calls : List Call) : Type 0 where
   pub few : count (s .n) (executing s) ≤ s .m
   -- history says what the session says
   pub told : (i : ℕ) → i < s .n → Told from s calls i
+  -- who ranks above whom, of the jobs that are present, is what the mode's own wording says
+  pub ranks : RanksAsSaid s
 
 -- 'Over any run of calls from a fresh setup'
 abbrev pub Demand3 : Type 0

@@ -56,7 +56,7 @@ ranks-kept w i q li out = kept (bitsMoved w i (min (nOf w) 64)) (72 + i) q _ (ap
 
 -- of one word: bit i is new, and every other is as it was
 bit-moved : (w : List ℕ) (i k b : ℕ) → b < 64 → bit (bitMoved w i k) b ≡ cond (eqb b i) (not (ranksAbove w i k)) (bit (aboveOf w k) b)
-bit-moved w i k b lb = go (ranksAbove w i k)
+bit-moved w i k b lb = go (ranksAbove w i k) refl
   where
     x : ℕ
     x = aboveOf w k
@@ -69,9 +69,9 @@ bit-moved w i k b lb = go (ranksAbove w i k)
     given has true = or-true has
     given has false = or-false has
 
-    go : (above : Bool) → bit (cond above (withoutBit x i) (withBit x i)) b ≡ cond (eqb b i) (not above) (bit x b)
-    go true = without-bit x i b lb ∙ taken (bit x b) (eqb b i)
-    go false = with-bit x i b lb ∙ given (bit x b) (eqb b i)
+    go : (above : Bool) → ranksAbove w i k ≡ above → bit (bitMoved w i k) b ≡ cond (eqb b i) (not (ranksAbove w i k)) (bit x b)
+    go true e = rw e (without-bit x i b lb ∙ taken (bit x b) (eqb b i))
+    go false e = rw e (with-bit x i b lb ∙ given (bit x b) (eqb b i))
 
 -- of each task below k
 bits-moved : (w : List ℕ) (i k j b : ℕ) → length w ≡ 1280 → k ≤ 64 → j < k → b < 64

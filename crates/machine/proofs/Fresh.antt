@@ -153,7 +153,7 @@ module _ (w list : List ℕ) (bad : allowed 16 (mOf w) ≡ false) (tick i : ℕ)
 -- any event
 step-one : (w list : List ℕ) → allowed 16 (mOf w) ≡ false → (e : Event) → stepIn w list e ≡ refusedIn w list 1
 step-one w list bad e =
-    event-cases (λ x. x ≡ refusedIn w list 1) w list e (arrive-one w list bad (e .tick) (e .task))
+    event-cases (λ x. x ≡ refusedIn w list 1) w list e (λ kind. arrive-one w list bad (e .tick) (e .task))
     (release-one w list bad (e .tick) (e .task) (e .reads) (e .writes)) (commit-one w list bad (e .tick) (e .task)) (finish-one w list bad (e .tick) (e .task))
 
 -- what stands in the place of a session has m 0

@@ -68,5 +68,5 @@ module _ (w list : List ℕ) (tick i : ℕ) where
 -- any event
 pub step-length : (w list : List ℕ) (e : Event) → length (stepIn w list e .list) ≡ length list
 step-length w list e =
-    event-cases (Long (length list)) w list e (arrives w list (e .tick) (e .task)) (releases w list (e .tick) (e .task) (e .reads) (e .writes))
+    event-cases (Long (length list)) w list e (λ kind. arrives w list (e .tick) (e .task)) (releases w list (e .tick) (e .task) (e .reads) (e .writes))
     (commits w list (e .tick) (e .task)) (finishes w list (e .tick) (e .task))

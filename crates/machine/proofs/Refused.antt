@@ -50,5 +50,5 @@ module _ (w list : List ℕ) (tick i : ℕ) where
 -- any event
 pub refused-stays : RefusedStays
 refused-stays w list e =
-    event-cases (Stays w list) w list e (arrive-stays w list (e .tick) (e .task)) (release-stays w list (e .tick) (e .task) (e .reads) (e .writes))
+    event-cases (Stays w list) w list e (λ kind. arrive-stays w list (e .tick) (e .task)) (release-stays w list (e .tick) (e .task) (e .reads) (e .writes))
     (commit-stays w list (e .tick) (e .task)) (finish-stays w list (e .tick) (e .task))

@@ -1,12 +1,14 @@
 -- What is proved of the words. Start here: each event on words that hold a session gives the answer of the rules' step, and leaves words that hold the session after it.
 use Prim.Native.Nat.{ℕ, _+_, _*_, _^_, _≤_, _<_}
 use mathlib.Core.Path.{_≡_}
+use mathlib.Core.Logic.{_≢_}
 use mathlib.Core.List.{List}
 use mathlib.Core.Bool.{cond}
 use lib.ListN.{length, getD}
 use Rattle.rules.specs.declared.Setup.{Setup}
 use Rattle.rules.specs.declared.Arrival.the-variants.{At}
 use Rattle.rules.specs.declared.Session.{Session}
+use Rattle.rules.specs.declared.Kind.the-variants.{Arrive}
 use Rattle.rules.specs.declared.Event.{Event}
 use Rattle.rules.specs.declared.Admission.{Admission}
 use Rattle.rules.specs.declared.Admissions.{Admissions}
@@ -18,6 +20,7 @@ use Rattle.rules.specs.Setup.{setupNumber, fresh, start}
 use Rattle.rules.specs.Listed.{admissionAt}
 use Rattle.rules.specs.Scan.{noAdmission}
 use Rattle.rules.specs.Events.{step}
+use Rattle.machine.specs.Places.{aboveOf}
 use Rattle.machine.specs.Events.{Outcome, refusedIn, stepIn}
 use Rattle.machine.specs.Opened.{opened, readBack}
 use Rattle.machine.specs.Holds.{PeriodsFit, Holds}
@@ -54,6 +57,10 @@ RefusedStays =
     (w list : List ℕ) (e : Event)
     → let x = stepIn w list e in
     1 ≤ number (x .said) → (x .words ≡ w) × (x .list ≡ list) × (x .admitted ≡ 0)
+
+-- who ranks above whom moves at an arrival alone: of any words at all, every other event leaves it as it was
+abbrev pub AboveStays : Type 0
+AboveStays = (w list : List ℕ) (e : Event) → e .kind ≢ Arrive → (i : ℕ) → i < 64 → aboveOf (stepIn w list e .words) i ≡ aboveOf w i
 
 -- ---- opened, and read back
 

@@ -23,20 +23,20 @@ pub asked-where : (b p q : Bool) → (b ≡ true → p ≡ q) → (b && p) ≡ (
 asked-where true p q same = same refl
 asked-where false p q same = refl
 
--- an event is one of four
-pub event-cases : (P : Outcome → Type 0) (w list : List ℕ) (e : Event) → P (arriveIn w list (e .tick) (e .task))
+-- an event is one of four; of the first it is known that it is that
+pub event-cases : (P : Outcome → Type 0) (w list : List ℕ) (e : Event) → (e .kind ≡ Arrive → P (arriveIn w list (e .tick) (e .task)))
     → P (releaseIn w list (e .tick) (e .task) (e .reads) (e .writes)) → P (commitIn w list (e .tick) (e .task)) → P (finishIn w list (e .tick) (e .task))
     → P (stepIn w list e)
 unfolding stepIn
 event-cases P w list e arrives releases commits finishes =
-    elim (e .kind) as (λ k. P (elim k [
+    (elim (e .kind) as (λ k. e .kind ≡ k → P (elim k [
       | Arrive ↦ arriveIn w list (e .tick) (e .task)
       | Release ↦ releaseIn w list (e .tick) (e .task) (e .reads) (e .writes)
       | Commit ↦ commitIn w list (e .tick) (e .task)
       | Finish ↦ finishIn w list (e .tick) (e .task)
     ])) [
       | Arrive ↦ arrives
-      | Release ↦ releases
-      | Commit ↦ commits
-      | Finish ↦ finishes
-    ]
+      | Release ↦ λ kind. releases
+      | Commit ↦ λ kind. commits
+      | Finish ↦ λ kind. finishes
+    ]) refl

@@ -66,9 +66,12 @@ module _ (j : ℕ) (low : j < 64) where
     commits = either Says (eqb (commitNumberIn w tick i) 0) (scan-above (committedIn w tick i) list ∙ committed-above) refl
 
     -- a finish
+    finished-above : Same w (finishedIn w tick i)
+    finished-above = simp (chain, inside)
+
     finishes : Says (finishIn w list tick i)
     unfolding finishIn
-    finishes = either Says (eqb (finishNumberIn w tick i) 0) (scan-above (finishedIn w tick i) list ∙ simp (chain, inside)) refl
+    finishes = either Says (eqb (finishNumberIn w tick i) 0) (scan-above (finishedIn w tick i) list ∙ finished-above) refl
 
     module _ (reads writes : List ℕ) where
       abbrev begun : List ℕ

@@ -3,17 +3,19 @@ use Prim.Native.Nat.{ℕ, zero, suc, _+_, _≤_, _<_}
 use mathlib.Core.Path.{_≡_, refl, _∙_}
 use mathlib.Core.Logic.{inr}
 use mathlib.Core.List.{List}
-use mathlib.Core.Bool.{true}
+use mathlib.Core.Bool.{Bool, true, cond}
 use native.Mathlib.Omega.{arith}
 use lib.Dec.{eqb, ltb}
 use borrow.Author.Tests.{lt-ltb}
+use Rattle.rules.specs.declared.Said.{Said}
+use Rattle.rules.specs.declared.Said.the-variants.{Run}
 use Rattle.machine.specs.Places.{rowHeld, rowTask, aboveOf}
-use Rattle.machine.specs.Asked.{blockedIn}
+use Rattle.machine.specs.Asked.{blockedIn, waitSaidIn}
 use Rattle.machine.specs.Row.{Scan, admissibleIn, lookAt, lookTo, scanFrom, scanIn}
-use Rattle.machine.specs.Events.{Outcome, releaseNumberIn, commitNumberIn, finishNumberIn, releasedIn, runsIn, deferredIn, waitsIn, releaseAcceptedIn, releaseIn, busyIn, committedIn, commitIn, finishedIn, finishIn}
+use Rattle.machine.specs.Events.{Outcome, releaseNumberIn, commitNumberIn, finishNumberIn, stillIn, scanningIn, begunIn, releasedIn, runsIn, deferredIn, waitsIn, releaseAcceptedIn, releaseIn, raisedIn, busyIn, endedIn, committedIn, commitIn, finishedIn, finishIn}
 use Rattle.machine.specs.Theorem.{AboveStays}
 use Rattle.machine.proofs.Laws.Choices.{either, event-cases}
-use Rattle.machine.proofs.Laws.Places.{kept, chain}
+use Rattle.machine.proofs.Laws.Places.{kept, chain, sets-before}
 use Rattle.machine.proofs.Laws.RowPut.{row-put-kept}
 use Rattle.machine.proofs.Laws.Raised.{raised-aside, aside-low}
 
@@ -56,14 +58,26 @@ module _ (j : ℕ) (low : j < 64) where
     abbrev Says : Outcome → Type 0
     Says x = Same w (x .words)
 
+    -- a scan of such words leaves such words
+    scanned : (v : List ℕ) → Same w v → Same w (scanIn v list .words)
+    scanned v same = scan-above v list ∙ same
+
+    -- a scan follows, or none
+    either-above : (b : Bool) (said said′ : Said) (v v′ : List ℕ) → Same w v → Same w v′ → Says (cond b (scanningIn said v list) (stillIn said′ v′ list))
+    either-above b said said′ v v′ same same′ = either Says b (scanned v same) same′
+
     -- a commit raises the counts, and ends the transaction
+    ended-above : (v : List ℕ) → Same v (endedIn v tick i)
+    ended-above v = simp (chain, inside)
+
     committed-above : Same w (committedIn w tick i)
     unfolding committedIn
-    committed-above = simp (chain, inside) (raised-aside w i (busyIn w) (rowHeld w) (72 + j) (aside-low (72 + j) (omega arith)))
+    committed-above =
+        ended-above (raisedIn w i (busyIn w) (rowHeld w)) ∙ raised-aside w i (busyIn w) (rowHeld w) (72 + j) (aside-low (72 + j) (omega arith))
 
     commits : Says (commitIn w list tick i)
     unfolding commitIn
-    commits = either Says (eqb (commitNumberIn w tick i) 0) (scan-above (committedIn w tick i) list ∙ committed-above) refl
+    commits = either Says (eqb (commitNumberIn w tick i) 0) (scanned (committedIn w tick i) committed-above) refl
 
     -- a finish
     finished-above : Same w (finishedIn w tick i)
@@ -71,20 +85,26 @@ module _ (j : ℕ) (low : j < 64) where
 
     finishes : Says (finishIn w list tick i)
     unfolding finishIn
-    finishes = either Says (eqb (finishNumberIn w tick i) 0) (scan-above (finishedIn w tick i) list ∙ finished-above) refl
+    finishes = either Says (eqb (finishNumberIn w tick i) 0) (scanned (finishedIn w tick i) finished-above) refl
 
     module _ (reads writes : List ℕ) where
       abbrev begun : List ℕ
       begun = releasedIn w tick i reads writes
 
+      plain-no-more : Same w (begunIn w tick i)
+      plain-no-more = simp (chain, inside)
+
       begun-above : Same w begun
       unfolding releasedIn
-      begun-above = simp (chain, inside)
+      begun-above = sets-before (begunIn w tick i) i reads writes (72 + j) (omega arith) ∙ plain-no-more
 
       -- it waits, in the row
+      deferred-above : Same begun (deferredIn begun tick i)
+      deferred-above = simp (chain, inside)
+
       waits-above : Same begun (waitsIn begun tick i)
       unfolding waitsIn
-      waits-above = row-put-kept (deferredIn begun tick i) i (72 + j) (inr (omega arith)) ∙ simp (chain, inside)
+      waits-above = row-put-kept (deferredIn begun tick i) i (72 + j) (inr (omega arith)) ∙ deferred-above
 
       -- or it runs
       runs-above : Same begun (runsIn begun i)
@@ -94,7 +114,8 @@ module _ (j : ℕ) (low : j < 64) where
       accepts : Says (releaseAcceptedIn w list tick i reads writes)
       unfolding releaseAcceptedIn
       accepts =
-          either Says (blockedIn begun i) (scan-above (waitsIn begun tick i) list ∙ waits-above ∙ begun-above) (runs-above ∙ begun-above)
+          either-above (blockedIn begun i) (waitSaidIn begun i) Run (waitsIn begun tick i) (runsIn begun i) (waits-above ∙ begun-above)
+          (runs-above ∙ begun-above)
 
       -- a release
       releases : Says (releaseIn w list tick i reads writes)
@@ -103,5 +124,5 @@ module _ (j : ℕ) (low : j < 64) where
 
 pub above-stays : AboveStays
 above-stays w list e other j low =
-    event-cases (Says j low w list (e .tick) (e .task)) w list e (λ kind. absurd (other kind)) (releases j low w list (e .tick) (e .task) (e .reads) (e .writes))
+    event-cases (λ (x : Outcome). aboveOf (x .words) j ≡ aboveOf w j) w list e (λ kind. absurd (other kind)) (releases j low w list (e .tick) (e .task) (e .reads) (e .writes))
     (commits j low w list (e .tick) (e .task)) (finishes j low w list (e .tick) (e .task))

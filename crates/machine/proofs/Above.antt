@@ -1,4 +1,5 @@
--- Who ranks above whom moves at an arrival alone, of any words at all: every other event writes before those words, states and row, or behind them.
+-- Who ranks above whom moves at an arrival alone, of any words at all: every other event writes before those words, states and row, or behind them. What each change leaves
+-- is a law of its own, for the events on words that hold a session too.
 use Prim.Native.Nat.{ℕ, zero, suc, _+_, _≤_, _<_}
 use mathlib.Core.Path.{_≡_, refl, _∙_}
 use mathlib.Core.Logic.{inr}
@@ -9,7 +10,7 @@ use lib.Dec.{eqb, ltb}
 use borrow.Author.Tests.{lt-ltb}
 use Rattle.rules.specs.declared.Said.{Said}
 use Rattle.rules.specs.declared.Said.the-variants.{Run}
-use Rattle.machine.specs.Places.{rowHeld, rowTask, aboveOf}
+use Rattle.machine.specs.Places.{rowHeld, rowTask, aboveOf, setsPut}
 use Rattle.machine.specs.Asked.{blockedIn, waitSaidIn}
 use Rattle.machine.specs.Row.{Scan, admissibleIn, lookAt, lookTo, scanFrom, scanIn}
 use Rattle.machine.specs.Events.{Outcome, releaseNumberIn, commitNumberIn, finishNumberIn, stillIn, scanningIn, begunIn, releasedIn, runsIn, deferredIn, waitsIn, releaseAcceptedIn, releaseIn, raisedIn, busyIn, endedIn, committedIn, commitIn, finishedIn, finishIn}
@@ -26,6 +27,28 @@ module _ (j : ℕ) (low : j < 64) where
   -- words v say of task j what words w do
   abbrev Same : List ℕ → List ℕ → Type 0
   Same w v = aboveOf v j ≡ aboveOf w j
+
+  -- ---- the changes of one task
+
+  module _ (w : List ℕ) (tick i : ℕ) where
+    -- a release, with its sets in their place
+    bare-above : Same w (begunIn w tick i)
+    bare-above = simp (chain, inside)
+
+    pub begun-above : (reads writes : List ℕ) → Same w (setsPut (begunIn w tick i) i reads writes)
+    begun-above reads writes = sets-before (begunIn w tick i) i reads writes (72 + j) (omega arith) ∙ bare-above
+
+    -- a wait
+    pub deferred-above : Same w (deferredIn w tick i)
+    deferred-above = simp (chain, inside)
+
+    -- the end of a transaction
+    pub ended-above : Same w (endedIn w tick i)
+    ended-above = simp (chain, inside)
+
+    -- the end of a job
+    finished-above : Same w (finishedIn w tick i)
+    finished-above = simp (chain, inside)
 
   -- ---- a scan
 
@@ -67,44 +90,32 @@ module _ (j : ℕ) (low : j < 64) where
     either-above b said said′ v v′ same same′ = either Says b (scanned v same) same′
 
     -- a commit raises the counts, and ends the transaction
-    ended-above : (v : List ℕ) → Same v (endedIn v tick i)
-    ended-above v = simp (chain, inside)
-
     committed-above : Same w (committedIn w tick i)
     unfolding committedIn
     committed-above =
-        ended-above (raisedIn w i (busyIn w) (rowHeld w)) ∙ raised-aside w i (busyIn w) (rowHeld w) (72 + j) (aside-low (72 + j) (omega arith))
+        ended-above (raisedIn w i (busyIn w) (rowHeld w)) tick i ∙ raised-aside w i (busyIn w) (rowHeld w) (72 + j) (aside-low (72 + j) (omega arith))
 
     commits : Says (commitIn w list tick i)
     unfolding commitIn
     commits = either Says (eqb (commitNumberIn w tick i) 0) (scanned (committedIn w tick i) committed-above) refl
 
     -- a finish
-    finished-above : Same w (finishedIn w tick i)
-    finished-above = simp (chain, inside)
-
     finishes : Says (finishIn w list tick i)
     unfolding finishIn
-    finishes = either Says (eqb (finishNumberIn w tick i) 0) (scanned (finishedIn w tick i) finished-above) refl
+    finishes = either Says (eqb (finishNumberIn w tick i) 0) (scanned (finishedIn w tick i) (finished-above w tick i)) refl
 
     module _ (reads writes : List ℕ) where
       abbrev begun : List ℕ
       begun = releasedIn w tick i reads writes
 
-      plain-no-more : Same w (begunIn w tick i)
-      plain-no-more = simp (chain, inside)
-
-      begun-above : Same w begun
+      released-above : Same w begun
       unfolding releasedIn
-      begun-above = sets-before (begunIn w tick i) i reads writes (72 + j) (omega arith) ∙ plain-no-more
+      released-above = begun-above w tick i reads writes
 
       -- it waits, in the row
-      deferred-above : Same begun (deferredIn begun tick i)
-      deferred-above = simp (chain, inside)
-
       waits-above : Same begun (waitsIn begun tick i)
       unfolding waitsIn
-      waits-above = row-put-kept (deferredIn begun tick i) i (72 + j) (inr (omega arith)) ∙ deferred-above
+      waits-above = row-put-kept (deferredIn begun tick i) i (72 + j) (inr (omega arith)) ∙ deferred-above begun tick i
 
       -- or it runs
       runs-above : Same begun (runsIn begun i)
@@ -114,8 +125,8 @@ module _ (j : ℕ) (low : j < 64) where
       accepts : Says (releaseAcceptedIn w list tick i reads writes)
       unfolding releaseAcceptedIn
       accepts =
-          either-above (blockedIn begun i) (waitSaidIn begun i) Run (waitsIn begun tick i) (runsIn begun i) (waits-above ∙ begun-above)
-          (runs-above ∙ begun-above)
+          either-above (blockedIn begun i) (waitSaidIn begun i) Run (waitsIn begun tick i) (runsIn begun i) (waits-above ∙ released-above)
+          (runs-above ∙ released-above)
 
       -- a release
       releases : Says (releaseIn w list tick i reads writes)

@@ -26,6 +26,7 @@ use Rattle.machine.specs.Places.{plainOf, waitingOf, executingOf, rowSiz
 use Rattle.machine.specs.Asked.{clashIn}
 use Rattle.machine.specs.Events.{stampedIn, hitAt, ranAt, raisedIn, busyIn, endedIn, committedIn}
 use Rattle.machine.specs.Holds.{WaitHeld, TaskHeld, within, Tabled, Holds}
+use Rattle.machine.proofs.Above.{ended-above}
 use Rattle.machine.proofs.Laws.Places.{chain}
 use Rattle.machine.proofs.Laws.Counting.{row-counted}
 use Rattle.machine.proofs.Laws.Agree.{count-within, waiting-bit, busy-agrees, clash-agrees}
@@ -277,13 +278,12 @@ module _ (rank : Ranking) (stays : Stays rank) (v : List ℕ) (s : Session) (hol
   -- its rank is as it was, and so is who ranks above whom
   ranks : Ranks rank after session
   ranks =
-      moved-ranks rank v after s i t session (holds .table .few) (edit .moved) (λ j l. simp (chain, lt-ltb j 64 l))
+      moved-ranks rank v after s i t session (holds .table .few) (edit .moved) (λ j l. ended-above j l v tick i)
       (λ e. (ap (λ (x : State). not (isAbsent x)) was, stays t (taskAt s i) i refl refl refl)) (holds .table .above)
 
   -- the words hold the session in which it is plain
   ended-holds : Holds rank after session
-  ended-holds =
-      edit-holds v s i t after session edit rank below (ap isWaiting was) refl ranks holds
+  ended-holds = edit-holds v s i t after session edit rank below (ap isWaiting was) refl ranks holds
 
 -- ---- both
 

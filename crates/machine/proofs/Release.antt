@@ -28,6 +28,7 @@ use Rattle.machine.specs.Asked.{blockedIn, waitSaidIn}
 use Rattle.machine.specs.Row.{rowPut}
 use Rattle.machine.specs.Events.{stampedIn, begunIn, releasedIn, runsIn, deferredIn, waitsIn}
 use Rattle.machine.specs.Holds.{Ordered, WaitHeld, TaskHeld, within, Tabled, Holds}
+use Rattle.machine.proofs.Above.{begun-above, deferred-above}
 use Rattle.machine.proofs.Laws.Places.{chain}
 use Rattle.machine.proofs.Laws.Agree.{present, plain-bit, waiting-bit, executing-bit, blocked-agrees, wait-said-agrees}
 use Rattle.machine.proofs.Laws.Gapped.{ordered-stays}
@@ -127,7 +128,7 @@ module _ (rank : Ranking) (stays : Stays rank) (w : List ℕ) (s : Session) (hol
 
   -- who ranks above whom is as it was
   between-above : (j : ℕ) → j < 64 → aboveOf between j ≡ aboveOf w j
-  between-above j l = simp (chain, lt-ltb j 64 l)
+  between-above j l = begun-above j l w tick i reads writes
 
   -- and the words in between hold that session
   between-holds : Holds rank between (session Absent)
@@ -235,7 +236,7 @@ module _ (rank : Ranking) (stays : Stays rank) (w : List ℕ) (s : Session) (hol
     deferred-table : Tabled rank deferred (session (begins tick))
     deferred-table =
         edit-table v (session Absent) i (released (taskAt s i) (begins tick)) deferred (session (begins tick)) deferred-edit rank below table
-        (into-ranks (begins tick) deferred (λ j l. simp (chain, lt-ltb j 64 l) (above j l)))
+        (into-ranks (begins tick) deferred (λ j l. deferred-above j l v tick i ∙ above j l))
 
     -- ---- and in the row
 

@@ -6,10 +6,10 @@ use mathlib.Core.Logic.{_⊎_, inl, inr}
 use mathlib.Core.Bool.{Bool, true, false, cond, not, _&&_, _||_}
 use native.Mathlib.Nat.{le-of-suc-le-suc, not-suc-le-zero, zero-lt-suc, mod-lt, div-one, zero-div, div-add-mod', div-div-eq-div-mul, pow-succ', pow-suc, mul-assoc, mul-one, add-comm}
 use native.Mathlib.Omega.{arith}
-use lib.Dec.{eqb}
+use lib.Dec.{eqb, eqb·suc-zero, eqb·zero-suc, eqb·suc-suc}
 use lib.Arith.{lt-one, digits-lt, digits-div, digits-mod}
-use lib.Pow.{pow-pos}
-use lib.Bits.{bitAnd, bitOr, and-shr, and-mod, or-shr, or-mod}
+use lib.Pow.{pow-pos, shl-exact}
+use lib.Bits.{bitAnd, bitOr, and-shr, and-mod, or-shr, or-mod, shifted-half, shifted-even}
 use lib.Count.{ones, ones-step, trailingZeros, under}
 use borrow.Author.Tests.{eqb-true, eq-eqb, ne-eqb}
 use Rattle.objects.specs.Below.{any, sum, one, count, least}
@@ -91,6 +91,19 @@ bit-or = bit-op bitOr (λ x y. x || y) or-shr or-mod digits
     digits : (x y : ℕ) → x < 2 → y < 2 → eqb (bitOr x y) 1 ≡ (eqb x 1 || eqb y 1)
     digits x y l m =
         elim (digit x l) [ inl p ↦ rw p | inr p ↦ rw p (elim (digit y m) [ inl q ↦ rw q | inr q ↦ rw q ]) ]
+
+-- ---- a word of one bit
+
+-- a one that is shifted i places up has the bit i and no other
+pub bit-shifted : (i j : ℕ) → bit (1 * 2 ^ i) j ≡ eqb j i
+bit-shifted zero zero = bit-low 1
+bit-shifted zero (suc j) = bit-suc 1 j ∙ bit-zero j ∙ sym (eqb·suc-zero j)
+bit-shifted (suc i) zero = bit-low (1 * 2 ^ suc i) ∙ ap (λ (x : ℕ). eqb x 1) (shifted-even 1 i) ∙ sym (eqb·zero-suc i)
+bit-shifted (suc i) (suc j) = bit-suc (1 * 2 ^ suc i) j ∙ ap (λ (x : ℕ). bit x j) (shifted-half 1 i) ∙ bit-shifted i j ∙ sym (eqb·suc-suc j i)
+
+-- it fits where i is below 64
+pub shifted-fits : (i : ℕ) → i < 64 → 1 * 2 ^ i % 2 ^ 64 ≡ 1 * 2 ^ i
+shifted-fits i l = shl-exact 1 i 64 (omega arith) (omega arith)
 
 -- ---- a word from its bits
 

@@ -5,28 +5,17 @@ use mathlib.Core.Logic.{_⊎_, inl, inr}
 use mathlib.Core.Bool.{Bool, not, _&&_, _||_}
 use native.Mathlib.Nat.{le-of-suc-le-suc, not-suc-le-zero, mod-lt, zero-lt-suc, pow-suc}
 use native.Mathlib.Omega.{arith}
-use lib.Dec.{eqb, eqb·suc-zero, eqb·zero-suc, eqb·suc-suc}
-use lib.Pow.{shl-exact, ones-sub-lt}
-use lib.Bits.{bitAnd, bitOr, and-lt, or-lt, shifted-half, shifted-even}
+use lib.Dec.{eqb}
+use lib.Pow.{ones-sub-lt}
+use lib.Bits.{bitAnd, bitOr, and-lt, or-lt}
 use lib.Count.{ones}
 use Rattle.objects.specs.Objects.{bit}
 use Rattle.objects.proofs.Laws.Below.{count-ext}
-use Rattle.objects.proofs.Laws.Bits.{digit, bit-zero, bit-low, bit-suc, bit-and, bit-or, word-lt, word-eq, ones-count}
+use Rattle.objects.proofs.Laws.Bits.{digit, bit-low, bit-suc, bit-and, bit-or, bit-shifted, shifted-fits, word-lt, word-eq, ones-count}
 use Rattle.machine.specs.Bits.{withBit, withoutBit, common}
 use Rattle.machine.proofs.Laws.Bits.{with-bit, without-bit}
 
--- ---- one bit, and its opposite
-
--- a one that is shifted i places up has the bit i and no other
-pub bit-shifted : (i j : ℕ) → bit (1 * 2 ^ i) j ≡ eqb j i
-bit-shifted zero zero = bit-low 1
-bit-shifted zero (suc j) = bit-suc 1 j ∙ bit-zero j ∙ sym (eqb·suc-zero j)
-bit-shifted (suc i) zero = bit-low (1 * 2 ^ suc i) ∙ ap (λ (x : ℕ). eqb x 1) (shifted-even 1 i) ∙ sym (eqb·zero-suc i)
-bit-shifted (suc i) (suc j) = bit-suc (1 * 2 ^ suc i) j ∙ ap (λ (x : ℕ). bit x j) (shifted-half 1 i) ∙ bit-shifted i j ∙ sym (eqb·suc-suc j i)
-
--- it fits where i is below 64
-shifted-fits : (i : ℕ) → i < 64 → 1 * 2 ^ i % 2 ^ 64 ≡ 1 * 2 ^ i
-shifted-fits i l = shl-exact 1 i 64 (omega arith) (omega arith)
+-- ---- the opposite of a word
 
 -- the lowest digit of what is left of the highest number of n pairs is the opposite, and its half is what is left of their half
 not-odd : (n a : ℕ) → a < n * 2 → eqb (((n * 2 - 1) - a) % 2) 1 ≡ not (eqb (a % 2) 1)

@@ -1,0 +1,2 @@
+-- The laws of lists of objects and their sets.
+pub mod Laws

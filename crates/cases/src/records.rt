@@ -104,12 +104,14 @@ pub(crate) fn full_log() {
     let full = Cursor {
         at: 0,
         started: true,
+        release: 0,
         events: 4294967295,
     };
     print::step(log::next_step(b"\x05\x00\x02\x00\x00\x00\x00\x00\x00", full));
     let room = Cursor {
         at: 0,
         started: true,
+        release: 0,
         events: 4294967294,
     };
     print::step(log::next_step(b"\x05\x00\x02\x00\x00\x00\x00\x00\x00", room));

@@ -24,7 +24,7 @@ pub(crate) fn records() {
     read(b"\x00", 0);
     read(b"\x00\x00\x02", 0);
     read(b"\x00\x00\x00\x00", 0);
-    read(b"\x00\x00\x08\x00", 0);
+    read(b"\x00\x00\x09\x00", 0);
     read(b"\xff\xff\xff\xff", 0);
     read(b"\x05\x00\x02\x00", 0);
     read(b"\x05\x00\x02\x00\x00\x00\x00\x00", 0);

@@ -4,20 +4,22 @@ use std::ffi::{OsStr, OsString};
 use std::fs::{self, File};
 use std::io::{self, Write};
 
-use crate::damage::{make, setup_bytes, DAMAGES};
+use crate::damage::{damages, make, record_starts, setup_bytes};
 use crate::expected::{Expected, Given};
 use crate::first_records::{first_records, second_setups};
 use crate::folder::Folder;
 use crate::input::STANDARD_INPUT;
 use crate::lines::replay;
-use crate::log::{Fault, LogReader};
+use crate::log::{Fault, LogReader, LIST_RELEASE, RELEASES};
 use crate::log_counts::LogCounts;
 use crate::other::{first_difference, Feeding};
 use crate::random::Shape;
+use crate::release_records::release_records;
 use crate::rules::{Refusal, DEADLINE, FIXED_PRIORITY};
 use crate::score::Score;
 use crate::text::{log_of_text, text_of_log, TextError};
-use crate::vectors::{BAD_TEXTS, COMMENTED_TEXT, SESSIONS, WHOLE_IN_MODE_1_TEXT, WHOLE_TEXT};
+use crate::vectors::{BAD_TEXTS, COMMENTED_TEXT, SESSIONS};
+use crate::vectors::{WHOLE_BY_LISTS_TEXT, WHOLE_IN_MODE_1_TEXT, WHOLE_TEXT};
 
 /// How many logs of each kind of damage there are.
 const DAMAGED_SEEDS: usize = 40;
@@ -84,7 +86,8 @@ impl<W: Write> Comparison<'_, W> {
         Ok(())
     }
 
-    /// The first session's log, cut at each of its bytes; and in mode 1, at each of its setup's.
+    /// The first session's log, cut at each of its bytes; in mode 1, at each of its setup's; and by
+    /// lists, at each of one release's, which reads an object and writes another.
     fn cuts(&mut self) -> io::Result<()> {
         let log = log_of_text(SESSIONS[0].text.as_bytes()).unwrap_or_default();
         for length in 0..=log.len() {
@@ -96,13 +99,20 @@ impl<W: Write> Comparison<'_, W> {
             let name = format!("the first {length} bytes of it in mode 1");
             self.log(&name, &log[..length], Feeding::AtOnce)?;
         }
+        let log = log_of_text(WHOLE_BY_LISTS_TEXT.as_bytes()).unwrap_or_default();
+        let starts = record_starts(&log);
+        for length in starts[4]..=starts[5] {
+            let name = format!("the first {length} bytes of it by lists");
+            self.log(&name, &log[..length], Feeding::AtOnce)?;
+        }
         Ok(())
     }
 
-    /// First records that are no good setup, and second setups; this program is held to their
-    /// numbers first.
+    /// First records that are no good setup, second setups, and bad releases; this program is held
+    /// to their numbers first.
     fn bad_records(&mut self) -> io::Result<()> {
-        for record in first_records().into_iter().chain(second_setups()) {
+        let records = first_records().into_iter().chain(second_setups());
+        for record in records.chain(release_records()) {
             let fault = replay(&record.bytes[..], &mut io::sink(), |_, _, _| {})?;
             let found = fault.and_then(|fault| fault.refusal());
             self.score.book_bad(record.what, record.number, found)?;
@@ -112,7 +122,8 @@ impl<W: Write> Comparison<'_, W> {
     }
 
     /// Small logs: every m with every n, one in three of mode 0 in kind 7; many tasks admitted at
-    /// once, one admitted by a release that clashes with it, and every kind of damage.
+    /// once, one admitted by a release that clashes with it, sets at the edges, and every kind of
+    /// damage.
     fn small_logs(&mut self) -> io::Result<()> {
         for seed in 0..1024 {
             let shape = Shape::of_seed(seed);
@@ -127,7 +138,11 @@ impl<W: Write> Comparison<'_, W> {
             let seed = seed + 20_000;
             self.made(seed, "deferred", Shape::of_seed(seed), Feeding::AtOnce)?;
         }
-        for (kind, _) in DAMAGES {
+        for (seed, release_kind) in (60_000..60_060).zip(RELEASES.into_iter().cycle()) {
+            let shape = Shape::of_seed(31 * seed).with_releases(release_kind);
+            self.made(seed, "edges", shape, Feeding::AtOnce)?;
+        }
+        for (kind, _) in damages() {
             for seed in (10_000..).step_by(37).take(DAMAGED_SEEDS) {
                 self.made(seed, kind, Shape::of_seed(seed), Feeding::AtOnce)?;
             }
@@ -150,7 +165,8 @@ impl<W: Write> Comparison<'_, W> {
         {
             let shape = Shape::new(processors, tasks, 100_000);
             self.made(3000, "good", shape.in_mode(good), Feeding::AtOnce)?;
-            self.made(3000, "busy", shape.in_mode(busy), Feeding::AtOnce)?;
+            let shape = shape.in_mode(busy).with_releases(LIST_RELEASE);
+            self.made(3000, "busy", shape, Feeding::AtOnce)?;
         }
         let shape = Shape::new(2, 4, 200).in_mode(DEADLINE);
         self.made(4000, "full", shape, Feeding::AtOnce)
@@ -175,8 +191,10 @@ impl<W: Write> Comparison<'_, W> {
             tasks,
             events,
             mode,
+            release_kind,
         } = shape;
-        let name = format!("make {seed} {kind} {events} {processors} {tasks} {mode}");
+        let name =
+            format!("make {seed} {kind} {events} {processors} {tasks} {mode} {release_kind}");
         match make(seed, kind, shape) {
             Some(log) => {
                 self.counts.book_random_log(&log);
@@ -192,6 +210,7 @@ impl<W: Write> Comparison<'_, W> {
         if let Ok((setup, events)) = LogReader::open(log) {
             self.counts.book_setup(&setup, events.setup_kind());
         }
+        self.counts.book_releases(log);
         let mut lines = Vec::new();
         let counts = &mut self.counts;
         let fault = replay(log, &mut lines, |session, task, reply| {
@@ -266,7 +285,7 @@ impl<W: Write> Comparison<'_, W> {
             let expected = Expected::unreadable(&name);
             self.called(&format!("the name {name:?}"), &expected, &[name], &good)?;
         }
-        let expected = Expected::unreadable_input();
+        let expected = Expected::failed();
         let fault = expected.fault_of_input(self.program, &[], File::open(folder.path())?)?;
         self.score.book_run("a folder as standard input", fault)
     }

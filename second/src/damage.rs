@@ -3,17 +3,19 @@
 // Every damage has the same form, also one that needs no more than a slice.
 #![allow(clippy::ptr_arg)]
 
-use crate::log::{before_tasks, write_record, HEAD, MODE_SETUP, SETUP, TASK};
-use crate::random::{busy_log, deferred_log, flock_log, full_log, good_log, Random, Shape};
+use crate::log::{before_tasks, write_record, HEAD, LIST_RELEASE, MODE_SETUP, SETUP, TASK};
+use crate::random::{busy_log, deferred_log, edges_log, flock_log, full_log, good_log};
+use crate::random::{Random, Shape};
+use crate::release_damage::RELEASE_DAMAGES;
 use crate::rules::FIXED_PRIORITY;
 
 /// One kind of damage: it changes the bytes of a good log.
-type Damage = fn(&mut Random, &mut Vec<u8>);
+pub type Damage = fn(&mut Random, &mut Vec<u8>);
 
 /// Where the mode lies in a log whose setup is of kind 7.
 const MODE: usize = HEAD + 2;
 
-/// Every kind of damage, with the refusal it mostly leads to.
+/// Every kind of damage that any log can have, with the refusal it mostly leads to.
 pub const DAMAGES: [(&str, Damage); 24] = [
     ("cut", cut),                        // 20 or 27
     ("cut-record", cut_on_boundary),     // 27
@@ -41,8 +43,13 @@ pub const DAMAGES: [(&str, Damage); 24] = [
     ("twice", two_damages),              // any
 ];
 
-/// A log of a kind: `good`, `kind-7`, which says mode 0 too, `busy`, `full`, `flock`, `deferred`,
-/// or a kind of damage. Nothing for an unknown kind.
+/// Every kind of damage, those of releases included.
+pub fn damages() -> impl Iterator<Item = (&'static str, Damage)> {
+    DAMAGES.into_iter().chain(RELEASE_DAMAGES)
+}
+
+/// A log of a kind: `good`, `kind-7`, which says mode 0 too, `edges`, `busy`, `full`, `flock`,
+/// `deferred`, or a kind of damage. Nothing for an unknown kind.
 pub fn make(seed: u64, kind: &str, shape: Shape) -> Option<Vec<u8>> {
     let mut random = Random::new(seed);
     match kind {
@@ -52,16 +59,23 @@ pub fn make(seed: u64, kind: &str, shape: Shape) -> Option<Vec<u8>> {
             say_mode(&mut log);
             return Some(log);
         }
+        "edges" => return Some(edges_log(&mut random, shape)),
         "busy" => return Some(busy_log(&mut random, shape)),
         "full" => return Some(full_log(&mut random, shape)),
         "flock" => return Some(flock_log(&mut random, shape)),
         "deferred" => return Some(deferred_log(&mut random, shape)),
         _ => {}
     }
-    let (_, damage) = DAMAGES.iter().find(|(name, _)| *name == kind)?;
+    let damage = damage_of(kind)?;
     let mut log = good_log(&mut random, shape);
     damage(&mut random, &mut log);
     Some(log)
+}
+
+/// The damage of a kind.
+pub fn damage_of(kind: &str) -> Option<Damage> {
+    let (_, damage) = damages().find(|(name, _)| *name == kind)?;
+    Some(damage)
 }
 
 /// Where each record of a log starts, as far as its lengths can be followed.
@@ -75,6 +89,11 @@ pub fn record_starts(log: &[u8]) -> Vec<usize> {
     starts
 }
 
+/// The kind of the record that starts there.
+pub fn kind_at(log: &[u8], start: usize) -> u16 {
+    u16::from_le_bytes([log[start + 2], log[start + 3]])
+}
+
 fn some_record(random: &mut Random, log: &[u8]) -> usize {
     let starts = record_starts(log);
     // The first and the last record come up as often as all the others.
@@ -85,13 +104,13 @@ fn some_record(random: &mut Random, log: &[u8]) -> usize {
     }
 }
 
-fn last_record(log: &[u8]) -> usize {
+pub fn last_record(log: &[u8]) -> usize {
     record_starts(log).last().copied().unwrap_or(0)
 }
 
 /// The kind of the setup that this log begins with.
 fn setup_kind(log: &[u8]) -> u16 {
-    u16::from_le_bytes([log[2], log[3]])
+    kind_at(log, 0)
 }
 
 /// The body of that setup up to its tasks.
@@ -118,7 +137,7 @@ fn some_task(random: &mut Random, log: &[u8]) -> usize {
     HEAD + setup_start(log).len() + TASK * random.below(usize::from(log[HEAD + 1]))
 }
 
-fn put(log: &mut [u8], place: usize, bytes: &[u8]) {
+pub fn put(log: &mut [u8], place: usize, bytes: &[u8]) {
     log[place..place + bytes.len()].copy_from_slice(bytes);
 }
 
@@ -159,13 +178,13 @@ fn change_length(random: &mut Random, log: &mut Vec<u8>) {
 
 fn unknown_kind(random: &mut Random, log: &mut Vec<u8>) {
     let start = some_record(random, log);
-    let kind: u16 = random.pick(&[0, 8, 9, 255, 256, 258, 263, 1024, 65_535]);
+    let kind: u16 = random.pick(&[0, 9, 10, 255, 256, 258, 264, 1024, 65_535]);
     put(log, start + 2, &kind.to_le_bytes());
 }
 
 fn known_kind(random: &mut Random, log: &mut Vec<u8>) {
     let start = some_record(random, log);
-    let kind = random.between(u32::from(SETUP), u32::from(MODE_SETUP)) as u16;
+    let kind = random.between(u32::from(SETUP), u32::from(LIST_RELEASE)) as u16;
     put(log, start + 2, &kind.to_le_bytes());
 }
 
@@ -176,11 +195,11 @@ fn unknown_at_cut(random: &mut Random, log: &mut Vec<u8>) {
     put(
         log,
         start + 2,
-        &random.pick(&[0, 8, 65_535u16]).to_le_bytes(),
+        &random.pick(&[0, 9, 65_535u16]).to_le_bytes(),
     );
 }
 
-/// A length that is wrong for every kind, with a body that is cut off too.
+/// A length that only a release by lists can have, with a body that is cut off too.
 fn length_at_cut(random: &mut Random, log: &mut Vec<u8>) {
     let start = some_record(random, log);
     log.truncate(start + HEAD + random.below(4));
@@ -313,13 +332,13 @@ fn drop_setup(_: &mut Random, log: &mut Vec<u8>) {
     log.drain(..first_event);
 }
 
-fn wrong_count(random: &mut Random, log: &mut Vec<u8>) {
+pub fn wrong_count(random: &mut Random, log: &mut Vec<u8>) {
     let count = last_record(log) + HEAD;
     let byte = count + random.below(4);
     log[byte] ^= 1 << random.below(8);
 }
 
-fn bytes_after_end(random: &mut Random, log: &mut Vec<u8>) {
+pub fn bytes_after_end(random: &mut Random, log: &mut Vec<u8>) {
     if random.percent(25) {
         wrong_count(random, log);
     }

@@ -60,8 +60,8 @@ impl Expected {
         }
     }
 
-    /// Standard input cannot be read, and that is said in some way.
-    pub fn unreadable_input() -> Expected {
+    /// Something cannot be read or written, and that is said in some way.
+    pub fn failed() -> Expected {
         Expected {
             output: Vec::new(),
             status: BAD,
@@ -129,7 +129,7 @@ impl Expected {
             Errors::Name(name) => names_file(&said.errors, name),
         };
         let errors = String::from_utf8_lossy(&said.errors);
-        (!right).then(|| format!("  not said on standard error, which is {errors:?}"))
+        (!right).then(|| format!("  not what is wanted on standard error: {errors:?}"))
     }
 }
 

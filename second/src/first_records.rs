@@ -2,7 +2,7 @@
 //! the number that it must be refused with.
 
 use crate::log::{before_tasks, write_record};
-use crate::log::{ARRIVE, COMMIT, END, FINISH, MODE_SETUP, RELEASE, SETUP, TASK};
+use crate::log::{ARRIVE, COMMIT, END, FINISH, LIST_RELEASE, MODE_SETUP, RELEASE, SETUP, TASK};
 
 /// A bad beginning of a log.
 pub struct BadRecord {
@@ -12,7 +12,7 @@ pub struct BadRecord {
 }
 
 /// The body of 01's setup.
-const BODY: [u8; 26] = [
+pub const BODY: [u8; 26] = [
     2, 3, 10, 0, 100, 0, 0, 0, 2, 0, 30, 0, 50, 0, 0, 0, 1, 0, 20, 0, 80, 0, 0, 0, 1, 0,
 ];
 
@@ -24,14 +24,14 @@ const PRIORITY: usize = 0;
 const PERIOD: usize = 2;
 const SPARE: usize = 7;
 
-fn record(kind: u16, body: &[u8]) -> Vec<u8> {
+pub fn record(kind: u16, body: &[u8]) -> Vec<u8> {
     let mut bytes = Vec::new();
     write_record(&mut bytes, kind, body);
     bytes
 }
 
 /// A record whose head says another length than its body has.
-fn record_of_length(length: u16, kind: u16, body: &[u8]) -> Vec<u8> {
+pub fn record_of_length(length: u16, kind: u16, body: &[u8]) -> Vec<u8> {
     let mut bytes = record(kind, body);
     bytes[..2].copy_from_slice(&length.to_le_bytes());
     bytes
@@ -108,7 +108,7 @@ pub fn second_setups() -> Vec<BadRecord> {
     named(seconds()).collect()
 }
 
-fn named(part: Part) -> impl Iterator<Item = BadRecord> {
+pub fn named(part: Part) -> impl Iterator<Item = BadRecord> {
     part.into_iter().map(|(what, number, bytes)| BadRecord {
         what,
         number,
@@ -116,20 +116,20 @@ fn named(part: Part) -> impl Iterator<Item = BadRecord> {
     })
 }
 
-type Part = Vec<(&'static str, u8, Vec<u8>)>;
+pub type Part = Vec<(&'static str, u8, Vec<u8>)>;
 
 fn kinds() -> Part {
     vec![
         ("kind 0", 21, record(0, &BODY)),
-        ("kind 8", 21, record(8, &BODY)),
         ("kind 9", 21, record(9, &BODY)),
         ("kind 257", 21, record(257, &BODY)),
         ("kind 263", 21, record(263, &with_mode(1, &BODY))),
+        ("kind 264", 21, record(264, &[0; 9])),
         ("kind 65,535", 21, record(65_535, &BODY)),
         (
             "an unknown kind, and no body",
             21,
-            record_of_length(26, 8, &[]),
+            record_of_length(26, 9, &[]),
         ),
         ("kind 0 and nothing else", 21, vec![0, 0, 0, 0]),
     ]
@@ -191,6 +191,16 @@ fn lengths() -> Part {
             "a commit with 69 bytes, first",
             22,
             record(COMMIT, &[0; 69]),
+        ),
+        (
+            "a release by lists with 8 bytes, first",
+            22,
+            record(LIST_RELEASE, &[0; 8]),
+        ),
+        (
+            "a setup as a release by lists",
+            22,
+            record(LIST_RELEASE, &BODY),
         ),
         ("an end with 5 bytes, first", 22, record(END, &[0; 5])),
     ]
@@ -287,6 +297,16 @@ fn places() -> Part {
     vec![
         ("an arrival first", 24, record(ARRIVE, &[0; 5])),
         ("a release first", 24, record(RELEASE, &[255; 69])),
+        (
+            "a release by lists first",
+            24,
+            record(LIST_RELEASE, &[0; 9]),
+        ),
+        (
+            "a release by lists that does not rise, first",
+            29,
+            record(LIST_RELEASE, &[0, 0, 0, 0, 0, 2, 0, 0, 0, 7, 7]),
+        ),
         ("a commit first", 24, record(COMMIT, &[0; 5])),
         ("a finish first", 24, record(FINISH, &[255; 5])),
         ("an end first", 24, end.clone()),
@@ -393,9 +413,9 @@ fn seconds() -> Part {
             after(&kind_7, &record(MODE_SETUP, &BODY)),
         ),
         (
-            "kind 8 behind kind 7",
+            "kind 9 behind kind 7",
             21,
-            after(&kind_7, &record(8, &BODY)),
+            after(&kind_7, &record(9, &BODY)),
         ),
     ]
 }

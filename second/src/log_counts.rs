@@ -8,13 +8,17 @@ use crate::counts::{above, add, count, least, print_classes, setup_in_words};
 use crate::counts::{Class, Counts, Never, SETUPS};
 use crate::lines::Reply;
 use crate::other_rankings::OtherRankings;
+use crate::release_counts::ReleaseCounts;
 use crate::rules::{Answer, Outcome, Refusal, Session, Setup};
 use crate::task_named::TaskNamed;
 
 /// The numbers that the replay of a log can give. 28 is for writers with a buffer of one size.
-const REFUSALS: [u8; 20] = [
-    1, 2, 3, 4, 5, 6, 7, 10, 11, 12, 13, 14, 20, 21, 22, 23, 24, 25, 26, 27,
+const REFUSALS: [u8; 21] = [
+    1, 2, 3, 4, 5, 6, 7, 10, 11, 12, 13, 14, 20, 21, 22, 23, 24, 25, 26, 27, 29,
 ];
+
+/// How often each thing must come up in releases.
+const LEAST_RELEASES: u64 = 20;
 
 const ANSWERS: [&str; 4] = ["ok", "run", "wait", "no"];
 
@@ -35,6 +39,7 @@ pub struct LogCounts {
     room_only: u64,
     /// Logs with an allowed setup, by what it is.
     setups: Counts<&'static str>,
+    releases: ReleaseCounts,
     /// By mode.
     modes: [ModeCounts; 2],
     /// Of random logs.
@@ -90,6 +95,10 @@ impl LogCounts {
         let mode = &mut self.modes[usize::from(setup.mode)];
         add(&mut mode.processors, usize::from(setup.processors));
         add(&mut mode.tasks, setup.tasks.len());
+    }
+
+    pub fn book_releases(&mut self, log: &[u8]) {
+        self.releases.book_log(log);
     }
 
     pub fn book_random_log(&mut self, log: &[u8]) {
@@ -171,6 +180,7 @@ impl LogCounts {
         replies
             .chain(others)
             .chain(setups)
+            .chain(self.releases.must_come_up(LEAST_RELEASES))
             .chain(modes)
             .chain(self.other_rankings.must_come_up())
             .collect()

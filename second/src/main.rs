@@ -1,16 +1,18 @@
 //! An independent reading of document 01, its rules, its log, its replay lines and the sum of
 //! demand 3, and of requests CR 1, the report, CR 2, retries that never ran, CR 3, whom a
-//! transaction waits for, and CR 5, earliest deadline first, in document 02; written from these
-//! documents alone, to be compared with other programs that follow them.
+//! transaction waits for, CR 5, earliest deadline first, and CR 6, shorter release records, in
+//! document 02; written from these documents alone, to be compared with other programs that follow
+//! them.
 //!
 //! Subcommands:
 //!
 //! - `second replay [LOG]` prints the lines of a log.
 //! - `second report [LOG...]` prints the sheet over these logs.
 //! - `second sum LENGTH [LOG]` prints, for each task, the sum for a wait of so many ticks.
+//! - `second convert KIND [LOG] > LOG` moves a whole log to releases of kind 3 or of kind 8.
 //! - `second log [TEXT] > LOG` makes a log of a readable text.
 //! - `second text [LOG] > TEXT` makes a readable text of a log.
-//! - `second make SEED KIND [EVENTS [M N [MODE]]] > LOG` makes a random log.
+//! - `second make SEED KIND [EVENTS [M N [MODE [RELEASE]]]] > LOG` makes a random log.
 //! - `second season SEED KIND FOLDER` makes a random list of logs for a report, in that folder.
 //! - `second compare PROGRAM [ARGS...]` compares another replay program with this one.
 //! - `second sheets PROGRAM [ARGS...]` compares another report program with this one.
@@ -25,20 +27,22 @@
 //! if the program was called wrongly.
 //!
 //! To read it in order: `rules` (sessions, events and the sum), `log` (records), `lines` (the
-//! replay), `text`; `tally` (what an event books) and `report` (the sheet); `sum`; then what stands
-//! around them: `trouble`, `descriptors`, `input`, `output`, `ending` (statuses) and `subcommands`;
-//! then what the comparisons need: `random`, `damage` and `seasons` (logs to try), `other` (the
-//! other program), `expected` (what it must say), `counts`, `cases`, `both_numbers`, `score`,
-//! `folder`, `first_records` (bad ones written down); then the replay's: `vectors` (sessions
-//! written down), `task_named`, `other_rankings`, `log_counts`, `compare` and `bench`; then the
-//! report's: `sheet_vectors` (lists written down), `sheet_counts` and `sheets`; then the sum's:
-//! `sum_vectors` (answers written down), `sum_counts` and `sums`; last `slowly`, for trying how a
-//! program reads and writes.
+//! replay), `text`; `tally` (what an event books) and `report` (the sheet); `sum`; `convert`; then
+//! what stands around them: `trouble`, `descriptors`, `input`, `output`, `ending` (statuses) and
+//! `subcommands`; then what the comparisons need: `random`, `damage`, `release_damage` and `seasons`
+//! (logs to try), `other` (the other program), `expected` (what it must say), `counts`, `cases`,
+//! `both_numbers`, `release_counts`, `score`, `folder`, `first_records` and `release_records` (bad
+//! ones written down); then the replay's: `vectors` (sessions written down), `task_named`,
+//! `other_rankings`, `log_counts`, `compare` and `bench`; then the report's:
+//! `sheet_vectors` (lists written down), `sheet_counts` and `sheets`; then the sum's: `sum_vectors`
+//! (answers written down), `sum_counts` and `sums`; last `slowly`, for trying how a program reads
+//! and writes.
 
 mod bench;
 mod both_numbers;
 mod cases;
 mod compare;
+mod convert;
 mod counts;
 mod damage;
 mod descriptors;
@@ -54,6 +58,9 @@ mod other;
 mod other_rankings;
 mod output;
 mod random;
+mod release_counts;
+mod release_damage;
+mod release_records;
 mod report;
 mod rules;
 mod score;

@@ -5,7 +5,7 @@
 
 use std::collections::BTreeSet;
 
-use crate::log::{write_end, write_event, write_setup};
+use crate::log::{write_end, write_event, write_setup, LIST_RELEASE, RELEASE};
 use crate::rules::{Action, Event, Session, Setup, State, Task, Transaction};
 use crate::rules::{FIXED_PRIORITY, LONGEST_PERIOD, MOST_ACCEPTED};
 
@@ -54,23 +54,25 @@ impl Random {
     }
 }
 
-/// How large a log is, and the mode of its setup.
+/// How large a log is, the mode of its setup, and the kind of its releases.
 #[derive(Clone, Copy, Debug)]
 pub struct Shape {
     pub processors: u8,
     pub tasks: u8,
     pub events: u32,
     pub mode: u8,
+    pub release_kind: u16,
 }
 
 impl Shape {
-    /// A shape of mode 0.
+    /// A shape of mode 0, with releases of kind 3.
     pub fn new(processors: u8, tasks: u8, events: u32) -> Shape {
         Shape {
             processors,
             tasks,
             events,
             mode: FIXED_PRIORITY,
+            release_kind: RELEASE,
         }
     }
 
@@ -78,14 +80,25 @@ impl Shape {
         Shape { mode, ..self }
     }
 
+    pub fn with_releases(self, release_kind: u16) -> Shape {
+        Shape {
+            release_kind,
+            ..self
+        }
+    }
+
     /// The shape that goes with a seed: 1,024 seeds in a row give every m with every n, the modes
-    /// like the colours of a chessboard.
+    /// like the colours of a chessboard. One log in three has releases by lists.
     pub fn of_seed(seed: u64) -> Shape {
         Shape {
             processors: (1 + seed / 64 % 16) as u8,
             tasks: (1 + seed % 64) as u8,
             events: Random::new(!seed).between(0, 150),
             mode: ((seed / 64 + seed) % 2) as u8,
+            release_kind: match seed / 3 % 3 {
+                2 => LIST_RELEASE,
+                _ => RELEASE,
+            },
         }
     }
 
@@ -122,6 +135,8 @@ struct Style {
     most_writes: usize,
     /// Of a hundred transactions, how many write every one of the objects.
     write_all: u32,
+    /// Whether every set is an edge of what a set can be, instead of all this.
+    edges: bool,
     /// Of a hundred choices of a plain task, how many are to finish.
     finish: u32,
     /// Of a hundred events, how many are chosen without a look at the rules.
@@ -144,6 +159,7 @@ impl Style {
             least_writes: random.below(2).min(most_writes),
             most_writes,
             write_all: random.pick(&[0, 2, 10, 40]),
+            edges: false,
             finish: random.pick(&[2, 10, 40]),
             wrong: random.pick(&[0, 5, 10, 40]),
             step: random.pick(&[0, 1, 2, 10, 1000]),
@@ -161,6 +177,7 @@ impl Style {
             least_writes: random.below(2),
             most_writes: random.pick(&[1, 2]),
             write_all: random.pick(&[0, 10, 40]),
+            edges: false,
             finish: random.pick(&[2, 10, 40]),
             wrong: random.pick(&[0, 5, 20]),
             step: random.pick(&[0, 1, 10, 1000]),
@@ -187,6 +204,7 @@ impl Style {
             least_writes: 1,
             most_writes: 2,
             write_all: 0,
+            edges: false,
             finish: 3,
             wrong: 1,
             step: 1,
@@ -211,8 +229,21 @@ fn mixed_objects(random: &mut Random) -> Vec<u8> {
 /// A good log, as the seed will have it.
 pub fn good_log(random: &mut Random, shape: Shape) -> Vec<u8> {
     let style = Style::mixed(random);
+    log_of_style(random, shape, style)
+}
+
+/// A log whose sets are empty, full, or at the ends of all objects.
+pub fn edges_log(random: &mut Random, shape: Shape) -> Vec<u8> {
+    let style = Style {
+        edges: true,
+        ..Style::mixed(random)
+    };
+    log_of_style(random, shape, style)
+}
+
+fn log_of_style(random: &mut Random, shape: Shape, style: Style) -> Vec<u8> {
     let setup = mixed_setup(random, shape);
-    let mut maker = Maker::new(random, style, setup);
+    let mut maker = Maker::new(random, style, setup, shape.release_kind);
     for _ in 0..shape.events {
         maker.add_chosen_event();
     }
@@ -222,7 +253,7 @@ pub fn good_log(random: &mut Random, shape: Shape) -> Vec<u8> {
 /// A log of a busy box.
 pub fn busy_log(random: &mut Random, shape: Shape) -> Vec<u8> {
     let setup = busy_setup(random, shape);
-    let mut maker = Maker::new(random, Style::busy(shape), setup);
+    let mut maker = Maker::new(random, Style::busy(shape), setup, shape.release_kind);
     for _ in 0..shape.events {
         maker.add_chosen_event();
     }
@@ -232,7 +263,7 @@ pub fn busy_log(random: &mut Random, shape: Shape) -> Vec<u8> {
 /// A busy log that goes on until no more events are accepted, and then for `shape.events` more.
 pub fn full_log(random: &mut Random, shape: Shape) -> Vec<u8> {
     let setup = busy_setup(random, shape);
-    let mut maker = Maker::new(random, Style::busy(shape), setup);
+    let mut maker = Maker::new(random, Style::busy(shape), setup, shape.release_kind);
     while maker.session.accepted() < MOST_ACCEPTED {
         maker.add_chosen_event();
     }
@@ -248,7 +279,7 @@ pub fn full_log(random: &mut Random, shape: Shape) -> Vec<u8> {
 pub fn flock_log(random: &mut Random, shape: Shape) -> Vec<u8> {
     let style = Style::mixed(random);
     let setup = busy_setup(random, shape);
-    let mut maker = Maker::new(random, style, setup);
+    let mut maker = Maker::new(random, style, setup, shape.release_kind);
     maker.add_flock(0, 1);
     for _ in 0..shape.events {
         maker.add_chosen_event();
@@ -260,7 +291,12 @@ pub fn flock_log(random: &mut Random, shape: Shape) -> Vec<u8> {
 /// `shape.events` more.
 pub fn deferred_log(random: &mut Random, shape: Shape) -> Vec<u8> {
     let setup = season_setup(random, shape);
-    log_of_setup(random, &setup, shape.events, Behaviour::Deferred)
+    let Shape {
+        events,
+        release_kind,
+        ..
+    } = shape;
+    log_of_setup(random, &setup, events, Behaviour::Deferred, release_kind)
 }
 
 /// How the tasks of one log of a given setup behave.
@@ -284,13 +320,14 @@ pub fn log_of_setup(
     setup: &Setup,
     events: u32,
     behaviour: Behaviour,
+    release_kind: u16,
 ) -> Vec<u8> {
     let style = match behaviour {
         Behaviour::Mixed => Style::mixed(random),
         Behaviour::Contended | Behaviour::Deferred => Style::contended(random),
         Behaviour::Long | Behaviour::Flock => Style::long(random),
     };
-    let mut maker = Maker::new(random, style, setup.clone());
+    let mut maker = Maker::new(random, style, setup.clone(), release_kind);
     match behaviour {
         Behaviour::Mixed | Behaviour::Contended | Behaviour::Long => {}
         Behaviour::Flock => {
@@ -321,7 +358,7 @@ pub fn season_setup(random: &mut Random, shape: Shape) -> Setup {
 
 /// A log with one wait after another, of these lengths in ticks. Tasks 1 and 2 wait in turn for
 /// task 0.
-pub fn log_of_waits(random: &mut Random, waits: &[u32]) -> Vec<u8> {
+pub fn log_of_waits(random: &mut Random, waits: &[u32], release_kind: u16) -> Vec<u8> {
     let task = Task {
         priority: 1,
         period: 1,
@@ -329,7 +366,7 @@ pub fn log_of_waits(random: &mut Random, waits: &[u32]) -> Vec<u8> {
     };
     let setup = Shape::new(3, 3, 0).setup(vec![task; 3]);
     let style = Style::contended(random);
-    let mut maker = Maker::new(random, style, setup);
+    let mut maker = Maker::new(random, style, setup, release_kind);
     let mut tick = 0;
     for (wait, second) in waits.iter().zip([1, 2].into_iter().cycle()) {
         for task in [0, second] {
@@ -372,18 +409,20 @@ struct Maker<'a> {
     random: &'a mut Random,
     style: Style,
     session: Session,
+    release_kind: u16,
     events: u32,
     log: Vec<u8>,
 }
 
 impl Maker<'_> {
-    fn new(random: &mut Random, style: Style, setup: Setup) -> Maker<'_> {
+    fn new(random: &mut Random, style: Style, setup: Setup, release_kind: u16) -> Maker<'_> {
         let mut log = Vec::new();
         write_setup(&mut log, &setup).expect("the setups made here are allowed");
         Maker {
             random,
             style,
             session: Session::new(setup),
+            release_kind,
             events: 0,
             log,
         }
@@ -470,7 +509,7 @@ impl Maker<'_> {
     }
 
     fn add_event(&mut self, event: Event) {
-        write_event(&mut self.log, &event);
+        write_event(&mut self.log, &event, self.release_kind);
         self.events += 1;
         // A refused event stays in the log and changes nothing.
         let _ = self.session.take(event);
@@ -606,6 +645,13 @@ impl Maker<'_> {
     }
 
     fn transaction(&mut self) -> Transaction {
+        if self.style.edges {
+            let [reads, writes] = [0; 2].map(|_| edge(self.random));
+            return Transaction {
+                reads: reads.into_iter().collect(),
+                writes: writes.into_iter().collect(),
+            };
+        }
         if self.random.percent(self.style.write_all) {
             let writes = self.style.objects.iter().copied().collect();
             return Transaction {
@@ -624,5 +670,23 @@ impl Maker<'_> {
         (0..count)
             .map(|_| self.random.pick(&self.style.objects))
             .collect()
+    }
+}
+
+/// The objects of an edge of what a set can be, in rising order: none of them, all, all but one,
+/// those at either end, or few.
+pub fn edge(random: &mut Random) -> Vec<u8> {
+    let all = 0..=255;
+    let some = random.below(256) as u8;
+    match random.below(9) {
+        0 => Vec::new(),
+        1 => vec![0],
+        2 => vec![255],
+        3 => vec![0, 255],
+        4 => vec![254, 255],
+        5 => all.collect(),
+        6 => all.filter(|object| *object != some).collect(),
+        7 => all.filter(|object| object % 64 == some % 64).collect(),
+        _ => all.filter(|object| *object >= some).collect(),
     }
 }

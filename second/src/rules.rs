@@ -38,6 +38,7 @@ pub enum Refusal {
     WrongCount = 25,
     BytesAfterEnd = 26,
     NoEnd = 27,
+    ListDoesNotRise = 29,
     SetupsDiffer = 40,
     TotalWouldPass = 41,
 }

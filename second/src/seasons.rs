@@ -1,7 +1,8 @@
 //! Seasons: lists of logs for a report, mostly of one setup. The same seed and kind always give
 //! the same list.
 
-use crate::damage::{say_mode, setup_bytes, DAMAGES};
+use crate::damage::{damage_of, say_mode, setup_bytes};
+use crate::log::{LIST_RELEASE, RELEASE, RELEASES};
 use crate::random::{log_of_setup, season_setup, Behaviour, Random, Shape};
 use crate::rules::{Setup, DEADLINE, FIXED_PRIORITY, LONGEST_PERIOD, MOST_PROCESSORS, MOST_TASKS};
 
@@ -37,7 +38,7 @@ pub fn season(seed: u64, kind: &str) -> Option<Vec<Vec<u8>>> {
     if let Some((_, difference)) = OTHER_SETUPS.iter().find(|(name, _)| *name == kind) {
         return Some(other_setup(&mut random, seed, *difference));
     }
-    let (_, damage) = DAMAGES.iter().find(|(name, _)| *name == kind)?;
+    let damage = damage_of(kind)?;
     let mut logs = good_season(&mut random, seed, Behaviour::Contended);
     let place = random.below(logs.len());
     damage(&mut random, &mut logs[place]);
@@ -67,15 +68,32 @@ fn setup_of_seed(random: &mut Random, seed: u64) -> Setup {
 fn good_season(random: &mut Random, seed: u64, behaviour: Behaviour) -> Vec<Vec<u8>> {
     let setup = setup_of_seed(random, seed);
     let logs = random.between(1, 6);
+    let release_kinds = random.pick(&RELEASE_KINDS);
     (0..logs)
-        .map(|_| some_log(random, &setup, behaviour))
+        .map(|_| some_log(random, &setup, behaviour, release_kinds))
         .collect()
 }
 
-/// A log of a setup. One of mode 0 may say it in kind 7, for it is the same setup.
-fn some_log(random: &mut Random, setup: &Setup, behaviour: Behaviour) -> Vec<u8> {
+/// The kinds of release that the logs of one list have, each log one of them.
+const RELEASE_KINDS: [&[u16]; 5] = [
+    &[RELEASE],
+    &[RELEASE],
+    &[LIST_RELEASE],
+    &RELEASES,
+    &RELEASES,
+];
+
+/// A log of a setup, with releases of one of these kinds. One of mode 0 may say it in kind 7, for it
+/// is the same setup.
+fn some_log(
+    random: &mut Random,
+    setup: &Setup,
+    behaviour: Behaviour,
+    release_kinds: &[u16],
+) -> Vec<u8> {
     let events = random.between(0, 150);
-    let mut log = log_of_setup(random, setup, events, behaviour);
+    let release_kind = random.pick(release_kinds);
+    let mut log = log_of_setup(random, setup, events, behaviour, release_kind);
     if random.percent(30) {
         say_mode(&mut log);
     }
@@ -89,13 +107,13 @@ fn other_setup(random: &mut Random, seed: u64, difference: Difference) -> Vec<Ve
     while other == setup {
         difference(random, &mut other);
     }
-    let mut other = some_log(random, &other, Behaviour::Contended);
+    let mut other = some_log(random, &other, Behaviour::Contended, &RELEASES);
     if random.below(3) == 0 {
         let first_event = setup_bytes(&other);
         other.truncate(first_event + random.below(other.len() - first_event));
     }
     let mut logs: Vec<Vec<u8>> = (0..random.between(1, 4))
-        .map(|_| some_log(random, &setup, Behaviour::Contended))
+        .map(|_| some_log(random, &setup, Behaviour::Contended, &RELEASES))
         .collect();
     let place = 1 + random.below(logs.len());
     logs.insert(place, other);

@@ -8,13 +8,14 @@ use crate::both_numbers::BothNumbers;
 use crate::cases::CaseCounts;
 use crate::counts::{add, add_all, count, least, print_classes, Class, Counts, Never};
 use crate::input::STANDARD_INPUT;
+use crate::log::RELEASES;
 use crate::report::{Onlooker, Report};
 use crate::rules::{Action, Event, Refusal, Setup, FIXED_PRIORITY};
 use crate::tally::{Booking, Commit, Tally, Wait, LAST_WAITS, MOST_TOTAL};
 use crate::trouble::Trouble;
 
 /// The numbers by which a log ends a report. 28 is for writers with a buffer of one size.
-const BAD: [u8; 14] = [10, 11, 12, 13, 14, 20, 21, 22, 23, 24, 25, 26, 27, 40];
+const BAD: [u8; 15] = [10, 11, 12, 13, 14, 20, 21, 22, 23, 24, 25, 26, 27, 29, 40];
 
 /// The numbers by which the manager refuses an event.
 const REFUSED: [u8; 7] = [1, 2, 3, 4, 5, 6, 7];
@@ -59,10 +60,13 @@ const ON_SHEETS: [&str; 35] = [
 ];
 
 /// What must come up there often.
-const ON_MANY_SHEETS: [&str; 3] = [
+const ON_MANY_SHEETS: [&str; 6] = [
     "sheets of mode 0 with a wait",
     "sheets of mode 1 with a wait",
     "sheets over setups of kind 1 and of kind 7",
+    "sheets over releases of kind 3 alone",
+    "sheets over releases of kind 8 alone",
+    "sheets over releases of kind 3 and of kind 8",
 ];
 
 #[derive(Default)]
@@ -96,8 +100,9 @@ struct ListCounts {
     in_waits: CaseCounts<BothNumbers>,
     processors: usize,
     mode: u8,
-    /// The kinds of the setups.
+    /// The kinds of the setups, and of the releases.
     kinds: BTreeSet<u16>,
+    release_kinds: BTreeSet<u16>,
     /// Whether an event was left out.
     left_out: bool,
     /// Whether the session before ended with waits open.
@@ -247,7 +252,8 @@ impl Onlooker for SheetCounts {
         }
     }
 
-    fn end(&mut self, open_waits: usize) {
+    fn end(&mut self, open_waits: usize, release_kind: Option<u16>) {
+        self.list.release_kinds.extend(release_kind);
         self.list.ended_open = open_waits > 0;
         if open_waits > 0 {
             self.list.add("sessions that end with waits open");
@@ -374,6 +380,13 @@ impl ListCounts {
         }
         if self.kinds.len() > 1 {
             self.add("sheets over setups of kind 1 and of kind 7");
+        }
+        let release_kinds = RELEASES.map(|kind| self.release_kinds.contains(&kind));
+        match release_kinds {
+            [true, false] => self.add("sheets over releases of kind 3 alone"),
+            [false, true] => self.add("sheets over releases of kind 8 alone"),
+            [true, true] => self.add("sheets over releases of kind 3 and of kind 8"),
+            [false, false] => {}
         }
         if tally.waits() > 0 {
             self.add(match self.mode {

@@ -4,13 +4,15 @@ use std::ffi::{OsStr, OsString};
 use std::fs::{self, File};
 use std::io::{self, Cursor, Read, Write};
 
-use crate::damage::{make, DAMAGES};
+use crate::damage::{damages, make};
 use crate::expected::{Expected, Given};
 use crate::first_records::{mode_records, second_setups};
 use crate::folder::Folder;
 use crate::input::{open, STANDARD_INPUT};
+use crate::log::LIST_RELEASE;
 use crate::other::{first_difference, Feeding};
 use crate::random::{log_of_waits, Random, Shape};
+use crate::release_records::release_records;
 use crate::report::{sheet, Onlooker};
 use crate::rules::{Refusal, DEADLINE, FIXED_PRIORITY};
 use crate::score::Score;
@@ -103,9 +105,11 @@ impl<W: Write> Comparison<'_, W> {
         Ok(())
     }
 
-    /// First records of kind 7 that are no good setup, and second setups, each the only log.
+    /// First records of kind 7 that are no good setup, second setups, and bad releases, each in the
+    /// only log.
     fn bad_records(&mut self) -> io::Result<()> {
-        for record in mode_records().into_iter().chain(second_setups()) {
+        let records = mode_records().into_iter().chain(second_setups());
+        for record in records.chain(release_records()) {
             let names = self.folder.put(&[&record.bytes])?;
             let found = sheet(&names, open, &mut ()).err();
             let found = found.and_then(|trouble| trouble.refusal());
@@ -119,7 +123,7 @@ impl<W: Write> Comparison<'_, W> {
     /// in every way. Of these last ones, each must end with 40.
     fn seasons(&mut self) -> io::Result<()> {
         let good = GOOD.map(|(kind, _)| (kind, GOOD_SEEDS));
-        let damaged = DAMAGES.map(|(kind, _)| (kind, DAMAGED_SEEDS));
+        let damaged = damages().map(|(kind, _)| (kind, DAMAGED_SEEDS));
         let kinds = good.into_iter().chain(damaged);
         for ((kind, seeds), first_seed) in kinds.zip((0..).step_by(1001)) {
             for seed in (first_seed..).take(seeds) {
@@ -163,7 +167,16 @@ impl<W: Write> Comparison<'_, W> {
         self.input("01's session as input", &example, Feeding::AtOnce)?;
         self.input("01's session as input", &example, Feeding::InPieces(1))?;
         self.input("nothing as input", &[], Feeding::AtOnce)?;
-        let kinds = ["good", "cut", "flock", "flip", "busy", "spare", "after-end"];
+        let kinds = [
+            "good",
+            "cut",
+            "flock",
+            "flip",
+            "busy",
+            "falling",
+            "spare",
+            "after-end",
+        ];
         let feedings = [Feeding::AtOnce, Feeding::InPieces(73), Feeding::InPieces(5)];
         let ways = kinds.into_iter().cycle().zip(feedings.into_iter().cycle());
         for (seed, (kind, feeding)) in (7000..7042).zip(ways) {
@@ -264,7 +277,7 @@ impl<W: Write> Comparison<'_, W> {
 
     /// A folder as standard input, and flags that nobody knows.
     fn wrong_calls(&mut self) -> io::Result<()> {
-        let expected = Expected::unreadable_input();
+        let expected = Expected::failed();
         let folder = File::open(self.folder.path())?;
         let fault = expected.fault_of_input(self.program, &[], folder)?;
         self.score.book_run("a folder as standard input", fault)?;
@@ -292,6 +305,7 @@ impl<W: Write> Comparison<'_, W> {
     /// log or in three; the first waits are the longer ones, or the last.
     fn rounds(&mut self) -> io::Result<()> {
         for (seed, waits) in (8000..).zip([4095, 4096, 4097, 4100, 8191, 8193]) {
+            let release_kind = Shape::of_seed(seed).release_kind;
             let mut random = Random::new(seed);
             let lengths: Vec<u32> = (0..waits)
                 .map(|wait| match (wait > waits / 2) == (seed % 2 == 0) {
@@ -299,7 +313,7 @@ impl<W: Write> Comparison<'_, W> {
                     false => random.between(80, 1000),
                 })
                 .collect();
-            let mut log = |waits: &[u32]| log_of_waits(&mut random, waits);
+            let mut log = |waits: &[u32]| log_of_waits(&mut random, waits, release_kind);
             let one = log(&lengths);
             let (first, rest) = lengths.split_at(waits / 3);
             let (second, third) = rest.split_at(rest.len() / 5);
@@ -320,7 +334,8 @@ impl<W: Write> Comparison<'_, W> {
             let names = self.folder.put(&[&log, &log])?;
             self.list(&format!("a large log twice, n {tasks}"), &names)?;
         }
-        let log = make(4000, "full", Shape::new(2, 4, 200)).unwrap_or_default();
+        let shape = Shape::new(2, 4, 200).with_releases(LIST_RELEASE);
+        let log = make(4000, "full", shape).unwrap_or_default();
         let names = self.folder.put(&[log])?;
         self.list("a full session", &names)?;
         let names = self.folder.put(&[&self.example; 365])?;

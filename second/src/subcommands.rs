@@ -12,7 +12,8 @@ use crate::output::{in_lines, in_pieces, print};
 use crate::random::Shape;
 use crate::rules::{DEADLINE, FIXED_PRIORITY, MOST_PROCESSORS, MOST_TASKS};
 use crate::trouble::{bad_line, Trouble};
-use crate::{bench, compare, damage, lines, report, seasons, sheets, slowly, sum, sums, text};
+use crate::{bench, compare, convert, damage, lines, report, seasons};
+use crate::{sheets, slowly, sum, sums, text};
 
 pub struct Subcommand {
     pub name: &'static str,
@@ -22,7 +23,7 @@ pub struct Subcommand {
     pub run: fn(&[OsString]) -> Run,
 }
 
-pub const SUBCOMMANDS: [Subcommand; 12] = [
+pub const SUBCOMMANDS: [Subcommand; 13] = [
     Subcommand {
         name: "replay",
         words: "[LOG]",
@@ -42,6 +43,12 @@ pub const SUBCOMMANDS: [Subcommand; 12] = [
         run: sum,
     },
     Subcommand {
+        name: "convert",
+        words: "KIND [LOG] > LOG",
+        does: "makes a log with its releases in KIND of another log",
+        run: convert,
+    },
+    Subcommand {
         name: "log",
         words: "[TEXT] > LOG",
         does: "makes a log of a readable text",
@@ -55,7 +62,7 @@ pub const SUBCOMMANDS: [Subcommand; 12] = [
     },
     Subcommand {
         name: "make",
-        words: "SEED KIND [EVENTS [M N [MODE]]] > LOG",
+        words: "SEED KIND [EVENTS [M N [MODE [RELEASE]]]] > LOG",
         does: "makes a random log",
         run: make,
     },
@@ -115,15 +122,20 @@ pub fn usage_of(subcommand: &Subcommand) -> String {
     usage.push_str(&format!("It {}.\n", subcommand.does));
     match subcommand.name {
         "replay" | "report" | "sum" => usage.push_str(INPUT_AND_STATUS),
+        "convert" => {
+            usage.push_str(INPUT_AND_STATUS);
+            usage.push_str(&format!("KIND: {RELEASE_KINDS}"));
+        }
         "log" | "text" => {
             usage.push_str(INPUT_AND_STATUS);
-            usage.push_str(&mode_of_text());
+            usage.push_str(&forms_of_text());
             usage.push_str(MODES);
         }
         "make" => {
             usage.push_str(&format!("KIND: {}\n", log_kinds()));
             usage.push_str(MODE_OF_LOG);
             usage.push_str(MODES);
+            usage.push_str(&format!("RELEASE: {RELEASE_KINDS}"));
         }
         "season" => {
             usage.push_str(&format!("KIND: {}\n", season_kinds()));
@@ -152,8 +164,9 @@ pub fn usage() -> String {
     usage.push_str(&format!("KIND of a season: {}\n", season_kinds()));
     usage.push_str(MODE_OF_LOG);
     usage.push_str(MODE_OF_SEASON);
-    usage.push_str(&mode_of_text());
+    usage.push_str(&forms_of_text());
     usage.push_str(MODES);
+    usage.push_str(&format!("RELEASE, and KIND of releases: {RELEASE_KINDS}"));
     usage
 }
 
@@ -163,26 +176,38 @@ Status: 0 good; 1 the log is bad, or something could not be read or written; 2 c
 ";
 
 const MODES: &str = "MODE: 0 fixed priority, 1 deadline\n";
-const MODE_OF_LOG: &str = "A log without a MODE has the one that goes with the seed\n";
+const RELEASE_KINDS: &str = "3 by sets, 8 by lists\n";
+const MODE_OF_LOG: &str = "\
+A log without a MODE has the one that goes with the seed, and so has one without a RELEASE
+";
 const MODE_OF_SEASON: &str = "\
-A season has the mode that goes with the seed; in mode 0 its setups are of kind 1 or of kind 7
+A season has the mode that goes with the seed; in mode 0 its setups are of kind 1 or of kind 7, and
+its logs have releases of kind 3 or of kind 8
 ";
 
-fn mode_of_text() -> String {
-    let setup = text::SETUP;
-    format!("A text begins with `{setup}`: its setup is of kind 7 with a MODE, else of kind 1\n")
+fn forms_of_text() -> String {
+    let (setup, release) = (text::SETUP, text::RELEASE);
+    format!(
+        "A text begins with `{setup}`: its setup is of kind 7 with a MODE, else of kind 1\n\
+         Its releases are `{release}`: of kind 8 with `lists`, else of kind 3\n"
+    )
 }
 
 fn log_kinds() -> String {
-    let damages = damage::DAMAGES.map(|(name, _)| name).join(" ");
-    format!("good kind-7 busy full flock deferred {damages}")
+    let damages = damage_kinds();
+    format!("good kind-7 edges busy full flock deferred {damages}")
 }
 
 fn season_kinds() -> String {
     let good = seasons::GOOD.map(|(name, _)| name).join(" ");
     let other_setups = seasons::OTHER_SETUPS.map(|(name, _)| name).join(" ");
-    let damages = damage::DAMAGES.map(|(name, _)| name).join(" ");
+    let damages = damage_kinds();
     format!("{good} {other_setups} {damages}")
+}
+
+fn damage_kinds() -> String {
+    let names: Vec<&str> = damage::damages().map(|(name, _)| name).collect();
+    names.join(" ")
 }
 
 pub fn asks_for_help(word: &OsStr) -> bool {
@@ -288,12 +313,49 @@ fn answer(answer: Result<String, Trouble>) -> Run {
     }
 }
 
+/// Standard output is a log or nothing: that a log is bad is said on standard error.
+fn convert(words: &[OsString]) -> Run {
+    let Some((kind, names)) = plain_words(words, 2)?.split_first() else {
+        return Err(Stop::Called("KIND is missing".to_string()));
+    };
+    let Some(kind) = kind.to_str().and_then(convert::kind_of) else {
+        let kind = kind.to_string_lossy();
+        return Err(Stop::Called(format!("KIND is 3 or 8, not `{kind}`")));
+    };
+    let name = one_name(names)?;
+    let log = whole(&name)?;
+    match convert::convert(kind, &log).map_err(|fault| Trouble::new(fault, name)) {
+        Ok(log) => {
+            print(&log)?;
+            Ok(true)
+        }
+        Err(trouble) => say_bad(trouble),
+    }
+}
+
+/// Says on standard error that a log is bad.
+fn say_bad(trouble: Trouble) -> Run {
+    match trouble {
+        Trouble::Bad(refusal, name) => {
+            let _ = io::stderr().write_all(&bad_line(refusal, &name));
+            Ok(false)
+        }
+        Trouble::Unreadable(error, name) => Err(Stop::Unreadable(error, name)),
+    }
+}
+
+/// All bytes of what has this name.
+fn whole(name: &OsString) -> Result<Vec<u8>, Stop> {
+    let mut bytes = Vec::new();
+    open_whole(name)?
+        .read_to_end(&mut bytes)
+        .map_err(|error| Stop::Unreadable(error, name.clone()))?;
+    Ok(bytes)
+}
+
 fn log(words: &[OsString]) -> Run {
     let name = one_name(words)?;
-    let mut text = Vec::new();
-    open_whole(&name)?
-        .read_to_end(&mut text)
-        .map_err(|error| Stop::Unreadable(error, name.clone()))?;
+    let text = whole(&name)?;
     let log = text::log_of_text(&text).map_err(|error| Stop::NoText(error, name))?;
     print(&log)?;
     Ok(true)
@@ -303,16 +365,13 @@ fn log(words: &[OsString]) -> Run {
 fn text(words: &[OsString]) -> Run {
     let name = one_name(words)?;
     match text::text_of_log(open_whole(&name)?).map_err(|fault| Trouble::new(fault, name)) {
-        Err(Trouble::Bad(refusal, name)) => {
-            let _ = io::stderr().write_all(&bad_line(refusal, &name));
-            Ok(false)
-        }
+        Err(trouble) => say_bad(trouble),
         text => answer(text),
     }
 }
 
 fn make(words: &[OsString]) -> Run {
-    let words = in_text(plain_words(words, 6)?)?;
+    let words = in_text(plain_words(words, 7)?)?;
     let log = make_of_words(&words).ok_or_else(not_understood)?;
     print(&log)?;
     Ok(true)
@@ -330,11 +389,14 @@ fn make_of_words(words: &[&str]) -> Option<Vec<u8>> {
     }
     match words {
         [] | [_] => {}
-        [_, processors, tasks, mode @ ..] => {
+        [_, processors, tasks, rest @ ..] => {
             shape.processors = number(processors, 1, MOST_PROCESSORS)?;
             shape.tasks = number(tasks, 1, MOST_TASKS as u8)?;
-            if let Some(mode) = mode.first() {
+            if let Some(mode) = rest.first() {
                 shape.mode = number(mode, FIXED_PRIORITY, DEADLINE)?;
+            }
+            if let Some(kind) = rest.get(1) {
+                shape.release_kind = convert::kind_of(kind)?;
             }
         }
         _ => return None,

@@ -8,7 +8,7 @@ use crate::log::{Fault, LogReader, END, HEAD};
 use crate::rules::{Refusal, Setup, Task, LONGEST_PERIOD};
 
 /// The numbers that a first record can be refused with.
-const REFUSALS: [u8; 11] = [10, 11, 12, 13, 14, 20, 21, 22, 23, 24, 27];
+const REFUSALS: [u8; 12] = [10, 11, 12, 13, 14, 20, 21, 22, 23, 24, 27, 29];
 
 /// Of two of them, what must come up besides: where in the record, and by what record.
 const PLACES: [&str; 4] = [

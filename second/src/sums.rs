@@ -10,7 +10,7 @@ use crate::expected::{Expected, Given};
 use crate::first_records::first_records;
 use crate::folder::Folder;
 use crate::input::STANDARD_INPUT;
-use crate::log::{write_setup, HEAD};
+use crate::log::{write_setup, HEAD, LIST_RELEASE, RELEASE};
 use crate::other::{first_difference, Feeding};
 use crate::random::{log_of_setup, mixed_setup, Behaviour, Random, Shape};
 use crate::rules::{Refusal, Setup, MOST_TASKS};
@@ -245,7 +245,7 @@ impl<W: Write> Comparison<'_, W> {
             self.called(&what, &words, &Expected::unreadable(&name))?;
         }
         self.runs += 1;
-        let expected = Expected::unreadable_input();
+        let expected = Expected::failed();
         let input = File::open(self.folder.path())?;
         let fault = expected.fault_of_input(self.program, &["4".into()], input)?;
         self.score.book_run("a folder as standard input", fault)
@@ -375,7 +375,10 @@ fn some_log(random: &mut Random, setup: &Setup, sort: u8) -> Vec<u8> {
             log.extend((0..bytes).map(|_| random.below(256) as u8));
         }
         2 => log.extend([4, 0, 6, 0, 9, 9, 9, 9]),
-        _ => log = log_of_setup(random, setup, 40, Behaviour::Mixed),
+        _ => {
+            let release_kind = random.pick(&[RELEASE, LIST_RELEASE]);
+            log = log_of_setup(random, setup, 40, Behaviour::Mixed, release_kind);
+        }
     }
     log
 }

@@ -13,7 +13,7 @@ pub struct Written {
     pub lines: &'static str,
 }
 
-pub const SESSIONS: [Written; 16] = [
+pub const SESSIONS: [Written; 18] = [
     Written {
         name: "the session of 01",
         text: WHOLE_TEXT,
@@ -28,6 +28,16 @@ pub const SESSIONS: [Written; 16] = [
         name: "the session of 01 in mode 1",
         text: WHOLE_IN_MODE_1_TEXT,
         lines: WHOLE_LINES,
+    },
+    Written {
+        name: "the session of 01 by lists",
+        text: WHOLE_BY_LISTS_TEXT,
+        lines: WHOLE_LINES,
+    },
+    Written {
+        name: "the ends of all objects, by lists",
+        text: ENDS_TEXT,
+        lines: ENDS_LINES,
     },
     Written {
         name: "a scan after a deferred release",
@@ -144,6 +154,29 @@ pub const WHOLE_TEXT: &str = WHOLE_TEXTS[0];
 pub const WHOLE_IN_MODE_0_TEXT: &str = WHOLE_TEXTS[1];
 pub const WHOLE_IN_MODE_1_TEXT: &str = WHOLE_TEXTS[2];
 
+/// The same events, with every release in kind 8.
+pub const WHOLE_BY_LISTS_TEXT: &str = "\
+setup 2
+task 10 100 2
+task 30 50 1
+task 20 80 1
+0 arrive 0
+1 release 0 lists reads writes 4
+2 arrive 1
+3 release 1 lists reads 4 writes 7
+4 arrive 2
+5 release 2 lists reads writes 7
+6 commit 0
+7 commit 2
+8 finish 0
+8 commit 1
+9 finish 1
+10 finish 0
+11 finish 2
+12 arrive 1
+end
+";
+
 const WHOLE_LINES: &str = "\
 setup 2 3
 0 arrive 0 ok
@@ -162,6 +195,51 @@ setup 2 3
 11 finish 2 ok
 12 arrive 1 no 5
 end 12 2
+";
+
+/// Objects 0 and 255, in the reads, in the writes and in both; and writes that begin below the last
+/// of the reads. m is 3, and the deadlines are 100, 101 and 102.
+///
+/// At 3 task 0 executes, and task 1 clashes with it on 0, which it writes, and on 255, which both
+/// write. At 4 task 2 only reads 0, as task 0 does, and task 1, which writes it, does not execute.
+/// At 5 task 0 commits: 2 + 0 + 0, a retry; but task 2 still reads 0. At 6 it commits: 1 + 1 + 0, a
+/// retry, and task 1 runs.
+///
+/// At 7 and at 8 sets without an object clash with nothing, and task 3 is none of the tasks.
+const ENDS_TEXT: &str = "\
+setup 3 mode 1
+task 1 100 2
+task 1 100 1
+task 1 100 2
+0 arrive 0
+1 arrive 1
+2 arrive 2
+2 release 0 lists reads 0 255 writes 255
+3 release 1 lists reads 1 255 writes 0 255
+4 release 2 lists reads 0 writes
+5 commit 0
+6 commit 2
+7 release 0 lists reads writes
+8 release 2 lists reads writes
+9 release 3 lists reads 0 writes 255
+end
+";
+
+const ENDS_LINES: &str = "\
+setup 3 3
+0 arrive 0 ok
+1 arrive 1 ok
+2 arrive 2 ok
+2 release 0 run
+3 release 1 wait 0 2 0
+4 release 2 run
+5 commit 0 ok
+6 commit 2 ok
+6 admit 1 2 2
+7 release 0 run
+8 release 2 run
+9 release 3 no 1
+end 10 1
 ";
 
 /// "Easy to get wrong", the first case: when task 0 commits, task 1 has no room, since task 3 is
@@ -846,7 +924,7 @@ end # of the session
 ";
 
 /// Texts that have no log, with the line in which that shows, and some of the words that say it.
-pub const BAD_TEXTS: [(usize, &str, &str); 43] = [
+pub const BAD_TEXTS: [(usize, &str, &str); 48] = [
     (1, "no `setup` line", ""),
     (2, "no `setup` line", "# only a comment\n"),
     (
@@ -989,6 +1067,31 @@ pub const BAD_TEXTS: [(usize, &str, &str); 43] = [
         3,
         "an object: a number from 0 to 255",
         "setup 1\ntask 1 1 1\n0 release 0 reads writes 256\n",
+    ),
+    (
+        3,
+        "`lists` cannot be an object",
+        "setup 1\ntask 1 1 1\n0 release 0 reads lists writes\nend\n",
+    ),
+    (
+        3,
+        "`reads` is missing",
+        "setup 1\ntask 1 1 1\n0 release 0 lists\nend\n",
+    ),
+    (
+        3,
+        "nothing stands behind the task",
+        "setup 1\ntask 1 1 1\n0 arrive 0 lists\nend\n",
+    ),
+    (
+        4,
+        "`lists` stands in every release of a text or in none",
+        "setup 1\ntask 1 1 1\n0 release 0 lists reads writes\n0 release 0 reads writes\nend\n",
+    ),
+    (
+        5,
+        "`lists` stands in every release of a text or in none",
+        "setup 1\ntask 1 1 1\n0 release 9 reads writes\n0 arrive 0\n0 release 0 lists reads writes\n",
     ),
     (
         4,

@@ -6,7 +6,8 @@ use std::io;
 use std::process::Stdio;
 
 use crate::ending::{BAD, CALLED_WRONGLY, GOOD};
-use crate::other::{first_difference, said_by, said_of_input, Feeding, Said};
+use crate::other::{first_byte, first_difference, said_by, said_of_input, Feeding, Said};
+use crate::rules::Refusal;
 use crate::trouble::{bad_line, Trouble};
 
 pub struct Expected {
@@ -14,12 +15,16 @@ pub struct Expected {
     pub output: Vec<u8>,
     status: u8,
     errors: Errors,
+    /// How a difference of two outputs is said.
+    difference: fn(&[u8], &[u8]) -> String,
 }
 
 /// What standard error must say.
 enum Errors {
     /// Nothing that is looked at.
     Any,
+    /// These bytes and no other.
+    Exactly(Vec<u8>),
     /// Something.
     Something,
     /// `NAME: ` somewhere.
@@ -39,6 +44,7 @@ impl Expected {
             output,
             status: GOOD,
             errors: Errors::Any,
+            difference: first_difference,
         }
     }
 
@@ -48,6 +54,7 @@ impl Expected {
             output,
             status: BAD,
             errors: Errors::Any,
+            difference: first_difference,
         }
     }
 
@@ -57,6 +64,27 @@ impl Expected {
             output: Vec::new(),
             status: BAD,
             errors: Errors::Name(name.clone()),
+            difference: first_difference,
+        }
+    }
+
+    /// A log, and nothing on standard error.
+    pub fn log(output: Vec<u8>) -> Expected {
+        Expected {
+            output,
+            status: GOOD,
+            errors: Errors::Exactly(Vec::new()),
+            difference: first_byte,
+        }
+    }
+
+    /// No log, but the one line of a bad one on standard error.
+    pub fn no_log(refusal: Refusal, name: &OsString) -> Expected {
+        Expected {
+            output: Vec::new(),
+            status: BAD,
+            errors: Errors::Exactly(bad_line(refusal, name)),
+            difference: first_byte,
         }
     }
 
@@ -66,6 +94,7 @@ impl Expected {
             output: Vec::new(),
             status: BAD,
             errors: Errors::Something,
+            difference: first_difference,
         }
     }
 
@@ -75,6 +104,7 @@ impl Expected {
             output: Vec::new(),
             status: CALLED_WRONGLY,
             errors: Errors::Something,
+            difference: first_difference,
         }
     }
 
@@ -91,7 +121,7 @@ impl Expected {
     pub fn fault(&self, program: &[OsString], given: &Given) -> io::Result<Option<String>> {
         let errors = match self.errors {
             Errors::Any => Stdio::inherit(),
-            Errors::Something | Errors::Name(_) => Stdio::piped(),
+            Errors::Exactly(_) | Errors::Something | Errors::Name(_) => Stdio::piped(),
         };
         let said = said_by(program, given.words, given.input, given.feeding, errors)?;
         Ok(self.fault_of(said))
@@ -112,7 +142,7 @@ impl Expected {
             return Some("  the other program was killed".to_string());
         };
         if said.output != self.output {
-            return Some(first_difference(&self.output, &said.output));
+            return Some((self.difference)(&self.output, &said.output));
         }
         if said.status != i32::from(self.status) {
             let (wanted, found) = (self.status, said.status);
@@ -125,6 +155,7 @@ impl Expected {
         }
         let right = match &self.errors {
             Errors::Any => true,
+            Errors::Exactly(bytes) => said.errors == *bytes,
             Errors::Something => !said.errors.is_empty(),
             Errors::Name(name) => names_file(&said.errors, name),
         };

@@ -17,6 +17,7 @@
 //! - `second compare PROGRAM [ARGS...]` compares another replay program with this one.
 //! - `second sheets PROGRAM [ARGS...]` compares another report program with this one.
 //! - `second sums PROGRAM [ARGS...]` compares another sum program with this one.
+//! - `second converts PROGRAM [ARGS...]` compares another convert program with this one.
 //! - `second bench REPLAY REPORT` times another replay program against this one, and its report
 //!   program beside it, in both modes.
 //! - `second slowly PROGRAM [ARGS...]` runs a program with streams that do not block, slowly.
@@ -35,14 +36,18 @@
 //! ones written down); then the replay's: `vectors` (sessions written down), `task_named`,
 //! `other_rankings`, `log_counts`, `compare` and `bench`; then the report's:
 //! `sheet_vectors` (lists written down), `sheet_counts` and `sheets`; then the sum's: `sum_vectors`
-//! (answers written down), `sum_counts` and `sums`; last `slowly`, for trying how a program reads
-//! and writes.
+//! (answers written down), `sum_counts` and `sums`; then the conversion's: `convert_vectors` (logs
+//! written down in both kinds), `long_logs`, `convert_counts` and `converts`; last `slowly`, for
+//! trying how a program reads and writes.
 
 mod bench;
 mod both_numbers;
 mod cases;
 mod compare;
 mod convert;
+mod convert_counts;
+mod convert_vectors;
+mod converts;
 mod counts;
 mod damage;
 mod descriptors;
@@ -54,6 +59,7 @@ mod input;
 mod lines;
 mod log;
 mod log_counts;
+mod long_logs;
 mod other;
 mod other_rankings;
 mod output;

@@ -148,3 +148,19 @@ fn in_quotes(line: Option<&[u8]>) -> String {
         None => "nothing more".to_string(),
     }
 }
+
+/// The first byte in which two outputs differ, as each has it.
+pub fn first_byte(ours: &[u8], others: &[u8]) -> String {
+    let same = ours
+        .iter()
+        .zip(others)
+        .take_while(|(one, other)| one == other);
+    let place = same.count();
+    let byte = |bytes: &[u8]| match bytes.get(place) {
+        Some(byte) => byte.to_string(),
+        None => "nothing more".to_string(),
+    };
+    let (one, other) = (byte(ours), byte(others));
+    let (ours, others) = (ours.len(), others.len());
+    format!("  byte {place}, this program: {one} of {ours} bytes\n  the other: {other} of {others}")
+}

@@ -12,7 +12,7 @@ use crate::output::{in_lines, in_pieces, print};
 use crate::random::Shape;
 use crate::rules::{DEADLINE, FIXED_PRIORITY, MOST_PROCESSORS, MOST_TASKS};
 use crate::trouble::{bad_line, Trouble};
-use crate::{bench, compare, convert, damage, lines, report, seasons};
+use crate::{bench, compare, convert, converts, damage, lines, report, seasons};
 use crate::{sheets, slowly, sum, sums, text};
 
 pub struct Subcommand {
@@ -23,7 +23,7 @@ pub struct Subcommand {
     pub run: fn(&[OsString]) -> Run,
 }
 
-pub const SUBCOMMANDS: [Subcommand; 13] = [
+pub const SUBCOMMANDS: [Subcommand; 14] = [
     Subcommand {
         name: "replay",
         words: "[LOG]",
@@ -89,6 +89,12 @@ pub const SUBCOMMANDS: [Subcommand; 13] = [
         words: "PROGRAM [ARGS...]",
         does: "compares another sum program with this one",
         run: |words| Ok(sums::sums(program(words)?, &mut in_lines())?),
+    },
+    Subcommand {
+        name: "converts",
+        words: "PROGRAM [ARGS...]",
+        does: "compares another convert program with this one",
+        run: |words| Ok(converts::converts(program(words)?, &mut in_lines())?),
     },
     Subcommand {
         name: "bench",

@@ -16,11 +16,12 @@ use crate::random::Shape;
 use crate::rules::{Answer, DEADLINE, FIXED_PRIORITY};
 
 /// The boxes, as m and n.
-const BOXES: [(u8, u8); 3] = [(2, 4), (6, 16), (16, 64)];
-const MODES: [u8; 2] = [FIXED_PRIORITY, DEADLINE];
+pub const BOXES: [(u8, u8); 3] = [(2, 4), (6, 16), (16, 64)];
+pub const MODES: [u8; 2] = [FIXED_PRIORITY, DEADLINE];
 /// The lengths of the logs, each with how many runs are made to find the quickest.
-const LENGTHS: [(u32, u32); 3] = [(10_000, 10), (100_000, 5), (1_000_000, 3)];
-const SEED: u64 = 1;
+const LENGTHS: [(u32, u32); 3] = [(10_000, 10), (100_000, 5), (LONGEST, 3)];
+pub const LONGEST: u32 = 1_000_000;
+pub const SEED: u64 = 1;
 
 /// A program and its words.
 type Program = [OsString];

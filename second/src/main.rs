@@ -18,6 +18,7 @@
 //! - `second sheets PROGRAM [ARGS...]` compares another report program with this one.
 //! - `second sums PROGRAM [ARGS...]` compares another sum program with this one.
 //! - `second converts PROGRAM [ARGS...]` compares another convert program with this one.
+//! - `second sizes` prints how long the longest logs of the benchmark are with each kind of release.
 //! - `second bench REPLAY REPORT` times another replay program against this one, and its report
 //!   program beside it, in both modes.
 //! - `second slowly PROGRAM [ARGS...]` runs a program with streams that do not block, slowly.
@@ -34,7 +35,7 @@
 //! (logs to try), `other` (the other program), `expected` (what it must say), `counts`, `cases`,
 //! `both_numbers`, `release_counts`, `score`, `folder`, `first_records` and `release_records` (bad
 //! ones written down); then the replay's: `vectors` (sessions written down), `task_named`,
-//! `other_rankings`, `log_counts`, `compare` and `bench`; then the report's:
+//! `other_rankings`, `log_counts`, `compare`, `bench` and `sizes`; then the report's:
 //! `sheet_vectors` (lists written down), `sheet_counts` and `sheets`; then the sum's: `sum_vectors`
 //! (answers written down), `sum_counts` and `sums`; then the conversion's: `convert_vectors` (logs
 //! written down in both kinds), `long_logs`, `convert_counts` and `converts`; last `slowly`, for
@@ -74,6 +75,7 @@ mod seasons;
 mod sheet_counts;
 mod sheet_vectors;
 mod sheets;
+mod sizes;
 mod slowly;
 mod subcommands;
 mod sum;

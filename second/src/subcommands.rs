@@ -13,7 +13,7 @@ use crate::random::Shape;
 use crate::rules::{DEADLINE, FIXED_PRIORITY, MOST_PROCESSORS, MOST_TASKS};
 use crate::trouble::{bad_line, Trouble};
 use crate::{bench, compare, convert, converts, damage, lines, report, seasons};
-use crate::{sheets, slowly, sum, sums, text};
+use crate::{sheets, sizes, slowly, sum, sums, text};
 
 pub struct Subcommand {
     pub name: &'static str,
@@ -23,7 +23,7 @@ pub struct Subcommand {
     pub run: fn(&[OsString]) -> Run,
 }
 
-pub const SUBCOMMANDS: [Subcommand; 14] = [
+pub const SUBCOMMANDS: [Subcommand; 15] = [
     Subcommand {
         name: "replay",
         words: "[LOG]",
@@ -97,6 +97,15 @@ pub const SUBCOMMANDS: [Subcommand; 14] = [
         run: |words| Ok(converts::converts(program(words)?, &mut in_lines())?),
     },
     Subcommand {
+        name: "sizes",
+        words: "",
+        does: "prints how long the longest logs of the benchmark are with each kind of release",
+        run: |words| {
+            plain_words(words, 0)?;
+            Ok(sizes::sizes(&mut in_lines())?)
+        },
+    },
+    Subcommand {
         name: "bench",
         words: "REPLAY REPORT",
         does:
@@ -118,7 +127,8 @@ pub const SUBCOMMANDS: [Subcommand; 14] = [
 
 impl Subcommand {
     fn call(&self) -> String {
-        format!("second {} {}", self.name, self.words)
+        let call = format!("second {} {}", self.name, self.words);
+        call.trim_end().to_string()
     }
 }
 

@@ -114,6 +114,12 @@ fn converted(wanted: u16, log: &[u8]) -> Result<Vec<u8>, Refusal> {
     convert(wanted, log).map_err(|fault| fault.refusal().expect("bytes at hand can be read"))
 }
 
+/// A program that is started by these words.
+fn behind(words: &[&str], program: &[OsString]) -> Vec<OsString> {
+    let words = words.iter().map(OsString::from);
+    words.chain(program.iter().cloned()).collect()
+}
+
 fn lines(log: &[u8]) -> io::Result<Vec<u8>> {
     let mut lines = Vec::new();
     replay(log, &mut lines, |_, _, _| {})?;
@@ -295,18 +301,26 @@ impl<W: Write> Comparison<'_, W> {
                 let what = format!("a pipe as {name}");
                 self.called(&what, &words, &Expected::failed())?;
             }
-            let name = self.folder.name(format!("pipe {wanted}").as_bytes());
-            Command::new("mkfifo").arg(&name).status()?;
-            let (pipe, log) = (name.clone(), self.example.clone());
-            // It waits until somebody opens the other end.
-            let feeder = thread::spawn(move || fs::write(pipe, log));
-            let words = [wanted.to_string().into(), name.clone()];
-            self.called("a pipe by its name", &words, &Expected::failed())?;
-            // If the program did not, this does.
-            let other_end = OpenOptions::new().read(true).write(true).open(&name)?;
-            let _ = feeder.join();
-            drop(other_end);
+            self.pipe_by_name(wanted)?;
         }
+        Ok(())
+    }
+
+    fn pipe_by_name(&mut self, wanted: u16) -> io::Result<()> {
+        let name = self.folder.name(format!("pipe {wanted}").as_bytes());
+        let made = Command::new("mkfifo").arg(&name).status()?.success();
+        self.score.book(made, "a pipe with a name")?;
+        let (pipe, log) = (name.clone(), self.example.clone());
+        // It waits until somebody opens the other end.
+        let feeder = thread::spawn(move || fs::write(pipe, log));
+        let words = [wanted.to_string().into(), name.clone()];
+        // A program that opens the pipe once more would wait for ever.
+        let program = behind(&["timeout", "60"], self.program);
+        self.call(&program, "a pipe by its name", &words, &Expected::failed())?;
+        // If the program did not open it, this does.
+        let other_end = OpenOptions::new().read(true).write(true).open(&name)?;
+        let _ = feeder.join();
+        drop(other_end);
         Ok(())
     }
 
@@ -336,28 +350,20 @@ impl<W: Write> Comparison<'_, W> {
     /// A standard output that is closed, or full.
     fn unwritable(&mut self) -> io::Result<()> {
         let long = of_size(RELEASE, 300_000);
-        let logs = [
-            (self.example.clone(), LIST_RELEASE),
-            (long.clone(), LIST_RELEASE),
-            (long, RELEASE),
-        ];
-        for (log, wanted) in logs {
-            let name = self.folder.name(b"log");
-            fs::write(&name, &log)?;
+        let short = self.example.clone();
+        let name = self.folder.name(b"log");
+        for (log, wanted) in [
+            (&short, LIST_RELEASE),
+            (&long, LIST_RELEASE),
+            (&long, RELEASE),
+        ] {
+            fs::write(&name, log)?;
             for place in [">&-", ">/dev/full"] {
                 let script = format!("exec \"$@\" {place}");
-                let shell = ["sh", "-c", &script, "sh"].map(OsString::from);
-                let program: Vec<OsString> = shell.iter().chain(self.program).cloned().collect();
+                let program = behind(&["sh", "-c", &script, "sh"], self.program);
                 let words = [wanted.to_string().into(), name.clone()];
-                let given = Given {
-                    words: &words,
-                    input: b"",
-                    feeding: Feeding::AtOnce,
-                };
-                self.runs += 1;
-                let fault = Expected::failed().fault(&program, &given)?;
                 let what = format!("{} bytes to kind {wanted}, {place}", log.len());
-                self.score.book_run(&what, fault)?;
+                self.call(&program, &what, &words, &Expected::failed())?;
             }
         }
         Ok(())
@@ -432,15 +438,25 @@ impl<W: Write> Comparison<'_, W> {
             .book(stays, &format!("{what}: the log was changed"))
     }
 
-    /// A call with these words, and 01's log on standard input.
     fn called(&mut self, what: &str, words: &[OsString], expected: &Expected) -> io::Result<()> {
+        self.call(self.program, what, words, expected)
+    }
+
+    /// A call of this program with these words, and 01's log on standard input.
+    fn call(
+        &mut self,
+        program: &[OsString],
+        what: &str,
+        words: &[OsString],
+        expected: &Expected,
+    ) -> io::Result<()> {
         self.runs += 1;
         let given = Given {
             words,
             input: &self.example,
             feeding: Feeding::AtOnce,
         };
-        let fault = expected.fault(self.program, &given)?;
+        let fault = expected.fault(program, &given)?;
         self.score.book_run(what, fault)
     }
 

@@ -29,8 +29,9 @@ use crate::vectors::{SESSIONS, WHOLE_TEXT};
 const RELEASE_DAMAGED: usize = 20;
 const DAMAGED: usize = 4;
 
-/// How many of the sessions written down are converted: 01's in every kind of setup and of release.
-const SESSIONS_OF_01: usize = 5;
+/// How many of the sessions written down are converted: 01's with every kind of setup and of release,
+/// and the one with the ends of all objects.
+const CONVERTED_SESSIONS: usize = 5;
 
 /// How far behind the start of a release each border of a long log lies, in kind 3 and in kind 8. Of
 /// a release the head has 4 bytes, tick and task have 5, and in kind 8 both counts have 4; in kind 3
@@ -127,8 +128,8 @@ fn lines(log: &[u8]) -> io::Result<Vec<u8>> {
 }
 
 impl<W: Write> Comparison<'_, W> {
-    /// The logs written down in both kinds: this program is held to their bytes first. And 01's
-    /// session.
+    /// The logs written down in both kinds: this program is held to their bytes first. And sessions
+    /// written down.
     fn written_logs(&mut self) -> io::Result<()> {
         for both in both_kinds() {
             let logs = [(RELEASE, &both.sets), (LIST_RELEASE, &both.lists)];
@@ -141,7 +142,7 @@ impl<W: Write> Comparison<'_, W> {
             }
             self.good(both.what, &both.sets)?;
         }
-        for session in &SESSIONS[..SESSIONS_OF_01] {
+        for session in &SESSIONS[..CONVERTED_SESSIONS] {
             let log = log_of_text(session.text.as_bytes()).unwrap_or_default();
             self.good(session.name, &log)?;
         }

@@ -2,3 +2,4 @@
 pub mod Logs
 pub mod Back
 pub mod Moved
+pub mod Laws

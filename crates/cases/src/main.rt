@@ -1,8 +1,11 @@
-// Document 01's worked cases, one of request 2 and one of request 5, each refusal from 1 to 28, how near the sum a clash count comes, and each kind of record there and back.
+// Document 01's worked cases, one of request 2 and one of request 5, each refusal from 1 to 29, how near the sum a clash count comes, each kind of record there and
+// back, and a whole log moved to either kind of release.
 //
 // The whole session and the first item under 'Easy to get wrong' are printed as 01 has them; with each refusal it is seen that the session stays.
 mod back;
+mod by_lists;
 mod modes;
+mod moved;
 mod near;
 mod print;
 mod records;
@@ -70,34 +73,47 @@ pub(crate) fn go(s: Session, e: Event) -> Session {
     answer.session
 }
 
-// 'A whole session'. Object 4 is 16, object 7 is 128.
-fn whole_session() {
-    let none = terms_of(0, 0, 0);
-    let u = setup_of(
+// The setup of 'A whole session'.
+pub(crate) fn session_setup() -> Setup {
+    setup_of(
         2,
         3,
         terms_of(10, 100, 2),
         terms_of(30, 50, 1),
         terms_of(20, 80, 1),
-        none,
-    );
+        terms_of(0, 0, 0),
+    )
+}
+
+// Its fourteen events, from 0. Object 4 is 16, object 7 is 128.
+pub(crate) fn session_event(k: u8) -> Event {
+    match k {
+        0 => event(Kind::Arrive, 0, 0),
+        1 => release(1, 0, 0, 16),
+        2 => event(Kind::Arrive, 2, 1),
+        3 => release(3, 1, 16, 128),
+        4 => event(Kind::Arrive, 4, 2),
+        5 => release(5, 2, 0, 128),
+        6 => event(Kind::Commit, 6, 0),
+        7 => event(Kind::Commit, 7, 2),
+        8 => event(Kind::Finish, 8, 0),
+        9 => event(Kind::Commit, 8, 1),
+        10 => event(Kind::Finish, 9, 1),
+        11 => event(Kind::Finish, 10, 0),
+        12 => event(Kind::Finish, 11, 2),
+        _ => event(Kind::Arrive, 12, 1),
+    }
+}
+
+// 'A whole session', as its lines.
+fn whole_session() {
+    let u = session_setup();
     let started = setup::setup(u);
     print::setup_line(u);
     let mut s = started.session;
-    s = go(s, event(Kind::Arrive, 0, 0));
-    s = go(s, release(1, 0, 0, 16));
-    s = go(s, event(Kind::Arrive, 2, 1));
-    s = go(s, release(3, 1, 16, 128));
-    s = go(s, event(Kind::Arrive, 4, 2));
-    s = go(s, release(5, 2, 0, 128));
-    s = go(s, event(Kind::Commit, 6, 0));
-    s = go(s, event(Kind::Commit, 7, 2));
-    s = go(s, event(Kind::Finish, 8, 0));
-    s = go(s, event(Kind::Commit, 8, 1));
-    s = go(s, event(Kind::Finish, 9, 1));
-    s = go(s, event(Kind::Finish, 10, 0));
-    s = go(s, event(Kind::Finish, 11, 2));
-    s = go(s, event(Kind::Arrive, 12, 1));
+    for k in 0..14 {
+        s = go(s, session_event(k));
+    }
     print::end_line(s.accepted, 2);
     print::sum_line(session::sum(s, 1, 4));
     print::sum_line(session::sum(s, 3, 4));
@@ -235,4 +251,13 @@ fn main() {
     back::no_room();
     back::bad_setups();
     back::each_kind();
+    by_lists::written();
+    by_lists::no_room();
+    by_lists::read_back();
+    by_lists::all_objects();
+    by_lists::lengths();
+    by_lists::bad_lengths();
+    by_lists::bad_lists();
+    moved::one_kind_only();
+    moved::session_moved();
 }

@@ -2,6 +2,7 @@
 use libc::STDOUT_FILENO;
 use log::Found;
 use log::Step;
+use moving::Converted;
 use rules::Admission;
 use rules::Answer;
 use rules::Event;
@@ -135,6 +136,14 @@ pub(crate) fn wrote(wrote: Wrote) {
             then(number as u64);
         }
     }
+    text(b"\n");
+}
+
+// The number of a log that was moved, and how many bytes were written.
+pub(crate) fn moved(x: Converted) {
+    text(b"moved");
+    then(x.number as u64);
+    then(x.size as u64);
     text(b"\n");
 }
 

@@ -2,13 +2,21 @@
 use crate::print;
 use log::Cursor;
 
+// The first so many bytes, or all where there are fewer.
+pub(crate) fn first_of(bytes: &[u8], many: usize) -> &[u8] {
+    if bytes.len() <= many {
+        return bytes;
+    }
+    &bytes[..many]
+}
+
 // The number of the record at a place.
-fn read(bytes: &[u8], at: usize) {
+pub(crate) fn read(bytes: &[u8], at: usize) {
     print::found(log::read(bytes, at));
 }
 
 // The number of a whole log, and how many events were read.
-fn whole(bytes: &[u8]) {
+pub(crate) fn whole(bytes: &[u8]) {
     let answer = log::read_whole(bytes);
     print::text(b"log");
     print::then(answer.number as u64);

@@ -1,5 +1,8 @@
-// Whether two sessions are the same, field by field.
+// Whether two sessions are the same, and two events, field by field.
+use objects::Groups;
 use rules::Arrival;
+use rules::Event;
+use rules::Kind;
 use rules::Session;
 use rules::State;
 use rules::Task;
@@ -92,4 +95,31 @@ pub(crate) fn same_session(a: Session, b: Session) -> bool {
         }
     }
     true
+}
+
+// A number for a kind of event.
+fn kind_code(kind: Kind) -> u64 {
+    match kind {
+        Kind::Arrive => 0,
+        Kind::Release => 1,
+        Kind::Commit => 2,
+        Kind::Finish => 3,
+    }
+}
+
+fn same_set(a: Groups, b: Groups) -> bool {
+    a[0] == b[0] && a[1] == b[1] && a[2] == b[2] && a[3] == b[3]
+}
+
+pub(crate) fn same_event(a: Event, b: Event) -> bool {
+    let kind = a.kind;
+    let kind_other = b.kind;
+    if kind_code(kind) != kind_code(kind_other) || a.tick != b.tick || a.task != b.task {
+        return false;
+    }
+    let reads = a.reads;
+    let reads_other = b.reads;
+    let writes = a.writes;
+    let writes_other = b.writes;
+    same_set(reads, reads_other) && same_set(writes, writes_other)
 }

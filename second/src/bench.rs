@@ -24,7 +24,7 @@ pub const LONGEST: u32 = 1_000_000;
 pub const SEED: u64 = 1;
 
 /// A program and its words.
-type Program = [OsString];
+pub type Program = [OsString];
 
 /// The programs: this one, as a replay and as a report, and the other two.
 struct Programs<'a> {
@@ -163,7 +163,7 @@ fn print_growth(out: &mut impl Write, shape: Shape, times: &[Times]) -> io::Resu
 }
 
 /// The time of one run as a process of its own, which writes to nowhere.
-fn time_of(program: &Program, log: &Path) -> io::Result<Duration> {
+pub fn time_of(program: &Program, log: &Path) -> io::Result<Duration> {
     let mut command = Command::new(&program[0]);
     command
         .args(&program[1..])
@@ -176,7 +176,7 @@ fn time_of(program: &Program, log: &Path) -> io::Result<Duration> {
     Ok(start.elapsed())
 }
 
-fn lines_of(program: &Program, log: &Path) -> io::Result<Vec<u8>> {
+pub fn lines_of(program: &Program, log: &Path) -> io::Result<Vec<u8>> {
     let mut command = Command::new(&program[0]);
     command
         .args(&program[1..])

@@ -18,7 +18,8 @@
 //! - `second sheets PROGRAM [ARGS...]` compares another report program with this one.
 //! - `second sums PROGRAM [ARGS...]` compares another sum program with this one.
 //! - `second converts PROGRAM [ARGS...]` compares another convert program with this one.
-//! - `second sizes` prints how long the longest logs of the benchmark are with each kind of release.
+//! - `second sizes REPLAY CONVERT` prints how long the longest logs of the benchmark are with each
+//!   kind of release, and times another program that converts them beside its replay.
 //! - `second bench REPLAY REPORT` times another replay program against this one, and its report
 //!   program beside it, in both modes.
 //! - `second slowly PROGRAM [ARGS...]` runs a program with streams that do not block, slowly.

@@ -98,11 +98,13 @@ pub const SUBCOMMANDS: [Subcommand; 15] = [
     },
     Subcommand {
         name: "sizes",
-        words: "",
-        does: "prints how long the longest logs of the benchmark are with each kind of release",
+        words: "REPLAY CONVERT",
+        does: "prints how long the benchmark's longest logs are with each kind of release, and times another program that converts them beside its replay",
         run: |words| {
-            plain_words(words, 0)?;
-            Ok(sizes::sizes(&mut in_lines())?)
+            let [replay, convert] = program(words)? else {
+                return Err(Stop::Called("REPLAY and CONVERT are wanted".to_string()));
+            };
+            Ok(sizes::sizes(replay, convert, &mut in_lines())?)
         },
     },
     Subcommand {

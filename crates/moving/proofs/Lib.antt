@@ -2,4 +2,5 @@
 pub mod Logs
 pub mod Back
 pub mod Moved
+pub mod Progress
 pub mod Laws

@@ -1,8 +1,9 @@
 -- One group of two transactions.
 use Prim.Native.Nat.{ℕ, _+_}
 use mathlib.Core.List.{List}
+use mathlib.Core.Bool.{Bool}
 use lib.ListN.{getD}
-use Rattle.objects.specs.Objects.{contestedWord}
+use Rattle.objects.specs.Objects.{contestedWord, groupContested}
 use Rattle.machine.specs.Places.{setPlace}
 use Rattle.seek.specs.declared.clash.Group.{Group}
 
@@ -18,3 +19,7 @@ groupIn w i j g = record {
 -- the objects of one group on which its two transactions clash
 abbrev pub wordIn : Group → ℕ
 wordIn x = contestedWord (x .reads) (x .writes) (x .«other_reads») (x .«other_writes»)
+
+-- there are some
+abbrev pub groupClashes : Group → Bool
+groupClashes x = groupContested (x .reads) (x .writes) (x .«other_reads») (x .«other_writes»)

@@ -1,2 +1,3 @@
 -- What the private functions of the searches go by.
 pub mod Groups
+pub mod Foremost

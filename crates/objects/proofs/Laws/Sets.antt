@@ -1,7 +1,7 @@
 -- The laws of a set of objects in four groups. Object g * 64 + i is bit i of group g, so a question about 256 objects is one about four words: some object,
 -- the lowest object and how many objects there are.
 use Prim.Native.Nat.{ℕ, _+_, _*_, _/_, _%_, _^_, _<_}
-use mathlib.Core.Path.{_≡_, sym, ap, ap₂, _∙_, fun-ext}
+use mathlib.Core.Path.{_≡_, refl, sym, ap, ap₂, _∙_, fun-ext}
 use mathlib.Core.Logic.{_≢_, _⊎_, inl, inr}
 use mathlib.Core.Bool.{Bool, true, false, cond, not}
 use mathlib.Core.List.{List}
@@ -9,12 +9,12 @@ use native.Mathlib.Nat.{zero-add, eq-or-lt-of-le}
 use native.Mathlib.Omega.{arith}
 use lib.ListN.{getD}
 use lib.Arith.{digits-div, digits-mod}
-use lib.Count.{ones, trailingZeros}
+use lib.Count.{trailingZeros}
 use borrow.Author.Tests.{ne-eqb}
 use Rattle.objects.specs.Below.{any, sum, count, least}
 use Rattle.objects.specs.Objects.{Groups, groupsAt, bit, has, lowestObject, howMany}
 use Rattle.objects.proofs.Laws.Below.{any-none, any-at, any-ext, any-blocks, sum-ext, count-ext, count-blocks, least-found, least-has, least-before, least-unique}
-use Rattle.objects.proofs.Laws.Bits.{bit-zero, any-bit, trailing-least, ones-count}
+use Rattle.objects.proofs.Laws.Bits.{bit-zero, any-bit, trailing-least}
 
 -- the groups at the start of a row of words are its words
 pub groups-at-start : (words : List ℕ) → groupsAt words 0 ≡ (λ g. getD words g 0)
@@ -74,10 +74,9 @@ lowest-below w g l fits full = rw trailing-least (object-below g (least 64 (bit 
 
 -- the lowest object is that of the first group that has one
 pub lowest-at : (set : Groups) (g : ℕ) → g < 4 → set g < 2 ^ 64 → set g ≢ 0 → ((j : ℕ) → j < g → set j ≡ 0)
-    → g * 64 + trailingZeros 64 (set g) ≡ lowestObject set
+    → g * 64 + least 64 (bit (set g)) ≡ lowestObject set
 lowest-at set g l fits full before =
-    ap (λ (i : ℕ). g * 64 + i) (trailing-least 64 (set g))
-    ∙ sym (lowest-some set (any-at 256 (has set) object below held) ∙ least-unique 256 (has set) object below held lower)
+    sym (lowest-some set (any-at 256 (has set) object below held) ∙ least-unique 256 (has set) object below held lower)
   where
     low : ℕ
     low = least 64 (bit (set g))
@@ -101,10 +100,19 @@ lowest-at set g l fits full before =
         go (inl p) = has-group set b g (p .0) ∙ least-before 64 (bit (set g)) (b % 64) (p .1)
         go (inr q) = has-empty set b (before (b / 64) q)
 
+-- an object's number is below 256, and so is 0
+pub lowest-lt : (set : Groups) → lowestObject set < 256
+unfolding lowestObject
+lowest-lt set = go (any 256 (has set)) refl
+  where
+    go : (b : Bool) → any 256 (has set) ≡ b → cond b (least 256 (has set)) 0 < 256
+    go true e = least-found 256 (has set) e
+    go false e = omega arith
+
 -- how many objects, group by group
-pub how-many-groups : (set : Groups) → ((g : ℕ) → g < 4 → set g < 2 ^ 64) → sum 4 (λ g. ones (set g)) ≡ howMany set
+pub how-many-groups : (set : Groups) → sum 4 (λ g. count 64 (bit (set g))) ≡ howMany set
 unfolding howMany
-how-many-groups set fits =
+how-many-groups set =
     sym (count-blocks 4 64 (has set)
-    ∙ sum-ext 4 (λ g. count 64 (λ i. has set (g * 64 + i))) (λ g. ones (set g))
-    (λ g l. count-ext 64 (λ i. has set (g * 64 + i)) (bit (set g)) (has-split set g) ∙ sym (ones-count 64 (set g) (fits g l))))
+    ∙ sum-ext 4 (λ g. count 64 (λ i. has set (g * 64 + i))) (λ g. count 64 (bit (set g)))
+    (λ g l. count-ext 64 (λ i. has set (g * 64 + i)) (bit (set g)) (has-split set g)))

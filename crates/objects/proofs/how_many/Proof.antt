@@ -8,9 +8,10 @@ use lib.Count.{ones, ones-le}
 use borrow.Author.Needs.{needs}
 use mir.Syntax.{w64}
 use mir.Val.{Fits}
-use Rattle.objects.specs.Below.{sum}
-use Rattle.objects.specs.Objects.{howMany}
-use Rattle.objects.proofs.Laws.Below.{sum-empty, sum-more}
+use Rattle.objects.specs.Below.{sum, count}
+use Rattle.objects.specs.Objects.{bit, howMany}
+use Rattle.objects.proofs.Laws.Below.{sum-empty, sum-more, sum-ext}
+use Rattle.objects.proofs.Laws.Bits.{ones-count}
 use Rattle.objects.proofs.Laws.Sets.{groups-at-start, how-many-groups}
 use Rattle.objects.proofs.how_many.Statement.{statement}
 use Rattle.objects.proofs.how_many.Tie as tie
@@ -63,7 +64,8 @@ returns c =
     let words = c .before .before .args .t1 in
     let done : c .before .loop .group ≡ 4 = omega arith in
     c .before .loop .inv .1 ∙ ap (λ (k : ℕ). sum k (λ j. ones (getD words j 0))) done
-    ∙ how-many-groups (λ g. getD words g 0) (λ g l. word-fits (c .before .before) g .fits) ∙ ap howMany (sym (groups-at-start words))
+    ∙ sum-ext 4 (λ g. ones (getD words g 0)) (λ g. count 64 (bit (getD words g 0))) (λ g l. ones-count 64 (getD words g 0) (word-fits (c .before .before) g .fits))
+    ∙ how-many-groups (λ g. getD words g 0) ∙ ap howMany (sym (groups-at-start words))
 
 pub how-many-spec : {M : Type 1} → statement M
 how-many-spec =

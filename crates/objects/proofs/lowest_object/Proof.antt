@@ -11,6 +11,7 @@ use borrow.Author.Count.{below-more}
 use mir.Syntax.{w64}
 use mir.Val.{Fits}
 use Rattle.objects.specs.Objects.{lowestObject}
+use Rattle.objects.proofs.Laws.Bits.{trailing-least}
 use Rattle.objects.proofs.Laws.Sets.{groups-at-start, lowest-at, lowest-none, lowest-below}
 use Rattle.objects.proofs.lowest_object.Statement.{statement}
 use Rattle.objects.proofs.lowest_object.Tie as tie
@@ -54,7 +55,8 @@ add-result c = omega (arith, lowest-fits c)
 returns : tie.Need-returns Inv-loop μ-loop
 returns c =
     let words = c .before .before .before .args .t1 in
-    lowest-at (λ g. getD words g 0) (c .before .before .loop .g) (c .before .loop-test .taken) (word-fits (c .before .before .before) (c .before .before .loop .g) .fits)
+    ap (λ (i : ℕ). c .before .before .loop .g * 64 + i) (trailing-least 64 (getD words (c .before .before .loop .g) 0))
+    ∙ lowest-at (λ g. getD words g 0) (c .before .before .loop .g) (c .before .loop-test .taken) (word-fits (c .before .before .before) (c .before .before .loop .g) .fits)
     (c .if1 .taken) (c .before .before .loop .inv .1)
     ∙ ap lowestObject (sym (groups-at-start words))
 

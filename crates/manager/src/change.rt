@@ -4,9 +4,8 @@ ghost use Prim.Native.Nat.{_<_};
 ghost use Rattle.rules.specs.Events.{oneMore};
 ghost use Rattle.machine.specs.Places.{acceptedOf, rowHeld, releasesAt};
 ghost use Rattle.machine.specs.Ranks.{rankGiven};
-ghost use Rattle.machine.specs.Events.{stampedIn, arrivedIn, releasedIn, runsIn, waitsIn, countsRaised, raisedIn, busyIn, committedIn, finishedIn};
+ghost use Rattle.machine.specs.Events.{stampedIn, arrivedIn, begunIn, runsIn, waitsIn, countsRaised, raisedIn, busyIn, committedIn, finishedIn};
 use machine::Words;
-use objects::Groups;
 use placing::put_in_rank;
 use placing::put_in_row;
 use placing::put_sets;
@@ -55,16 +54,15 @@ pub(crate) fn begin(words: &mut Words, tick: u32, i: usize)
     put_in_rank(words, i as u64);
 }
 
-// One more release of a plain task, with these sets.
-pub(crate) fn take_release(words: &mut Words, tick: u32, i: usize, reads: Groups, writes: Groups)
+// One more release of a plain task, before its sets stand in their place.
+pub(crate) fn take_release(words: &mut Words, tick: u32, i: usize)
     requires { ⌜ (i < 64) × (acceptedOf (now words) < 1000000) × (releasesAt (now words) i < 18446744073709551615) ⌝ }
-    ensures { λ _. ⌜ now (words .exit) ≡ releasedIn (now (words .entry)) tick i reads writes ⌝ }
+    ensures { λ _. ⌜ now (words .exit) ≡ begunIn (now (words .entry)) tick i ⌝ }
 {
     stamp(words, tick);
     words[4] = without_bit(words[4], i as u64);
     let base = 136 + i * 8;
     words[base + 4] = words[base + 4] + 1;
-    put_sets(words, i as u64, reads, writes);
 }
 
 // The release runs.

@@ -17,6 +17,7 @@ use machine::Admitted;
 use machine::Reply;
 use machine::Words;
 use objects::Groups;
+use placing::put_sets;
 use rules::Event;
 use rules::Kind;
 use rules::Said;
@@ -64,7 +65,8 @@ pub fn release(
         return reply(Said::No(number), 0);
     }
     let i = task as usize;
-    take_release(words, tick, i, reads, writes);
+    take_release(words, tick, i);
+    put_sets(words, task as u64, reads, writes);
     if !blocked(words, task as u64) {
         run(words, i);
         return reply(Said::Run, 0);
@@ -112,14 +114,16 @@ pub fn step(words: &mut Words, list: &mut Admitted, e: Event) -> Reply
     ensures lists { λ r. ⌜ now (list .exit) ≡ stepIn (now (words .entry)) (now (list .entry)) e .list ⌝ }
 {
     let kind = e.kind;
-    let reads = e.reads;
-    let writes = e.writes;
     match kind {
         Kind::Arrive => {
             let said = arrive(words, e.tick, e.task);
             reply(said, 0)
         }
-        Kind::Release => release(words, list, e.tick, e.task, reads, writes),
+        Kind::Release => {
+            let reads = e.reads;
+            let writes = e.writes;
+            release(words, list, e.tick, e.task, reads, writes)
+        }
         Kind::Commit => commit(words, list, e.tick, e.task),
         Kind::Finish => finish(words, list, e.tick, e.task),
     }

@@ -1,6 +1,6 @@
 -- `manager::change::take_release` meets its contract: the stamp changes no place that is read or written after it. Assumes nothing.
 use Prim.Native.Nat.{ℕ}
-use mathlib.Core.Path.{_≡_, sym, _∙_}
+use mathlib.Core.Path.{_≡_, _∙_}
 use mathlib.Core.List.{List}
 use native.Mathlib.Omega.{arith}
 use lib.ListN.{getD, set}
@@ -11,7 +11,6 @@ use Rattle.machine.specs.Events.{stampedIn}
 use Rattle.machine.proofs.Laws.Places.{kept}
 use Rattle.placing.proofs.Laws.Tasks.{task-mod}
 use Rattle.manager.proofs.Laws.Places.{past-stamp}
-use Rattle.manager.proofs.Laws.Events.{released-is}
 use Rattle.manager.proofs.change.take_release.Statement.{statement}
 use Rattle.manager.proofs.change.take_release.Tie as tie
 
@@ -61,20 +60,16 @@ mul-words-2 c = search needs
 element-write-words-2 : tie.Need-element-write-words-2
 element-write-words-2 c = search needs
 
-put-sets-requires : tie.Need-put-sets-requires
-put-sets-requires c κs = search needs
-
 returns : tie.Need-returns
 returns c =
-    let w = c .before .before in
-    let stamp = w .before .before .before .stamp in
-    let a = w .before .before .before .before .before .args in
+    let stamp = c .before .before .before .stamp in
+    let start = c .before .before .before .before .before in
+    let a = start .args in
     let i = a .i in
     let words = a .words .now in
-    let put : set (stamp .last .0) 4 (w .before .without-bit .result) ≡ set (stampedIn words (a .tick)) 4 (withoutBit (plainOf words) i) =
-    rw (w .before .without-bit .ensures, stamp .ensures, past-stamp words (a .tick) 4 (omega arith), task-mod i (w .before .before .before .before .before .pre .0)) in
-    c .put-sets .ensures
-    ∙ rw (put, releases-still words (a .tick) i (withoutBit (plainOf words) i), task-mod i (w .before .before .before .before .before .pre .0)) (sym (released-is words (a .tick) i (a .reads) (a .writes)))
+    let put : set (stamp .last .0) 4 (c .before .without-bit .result) ≡ set (stampedIn words (a .tick)) 4 (withoutBit (plainOf words) i) =
+    rw (c .before .without-bit .ensures, stamp .ensures, past-stamp words (a .tick) 4 (omega arith), task-mod i (start .pre .0)) in
+    rw (put, releases-still words (a .tick) i (withoutBit (plainOf words) i))
 
 pub take-release-spec : {M : Type 1} → statement M
 take-release-spec =
@@ -93,5 +88,4 @@ take-release-spec =
     add-words-3
     mul-words-2
     element-write-words-2
-    put-sets-requires
     returns)

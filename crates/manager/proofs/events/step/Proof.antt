@@ -34,7 +34,7 @@ finish-requires c κs = search needs
 
 returns : tie.Need-returns
 returns c =
-    let a = c .before .before .before .before .before .before .before .args in
+    let a = c .before .before .before .before .before .args in
     let all = sym (arrive-lists (a .words .now) (a .list .now) (a .e .tick) (a .e .task)) ∙ step-is (a .words .now) (a .list .now) (a .e) _ (c .before .before .before .enum-told .given .1) in
     let came = c .before .arrive .ensures in
     comes-to _ _ all _ _ _ (c .reply .ensures ∙ rw (came .0)) (came .1) refl
@@ -43,17 +43,17 @@ returns-2 : tie.Need-returns-2
 returns-2 c =
     let a = c .before .before .before .before .before .before .before .args in
     let came = c .release .ensures in
-    comes-to _ _ (step-is (a .words .now) (a .list .now) (a .e) _ (c .before .before .before .enum-told2 .given .1)) _ _ _ (came .0) (came .1 .0) (came .1 .1)
+    comes-to _ _ (step-is (a .words .now) (a .list .now) (a .e) _ (c .before .before .before .before .before .enum-told2 .given .1)) _ _ _ (came .0) (came .1 .0) (came .1 .1)
 
 returns-3 : tie.Need-returns-3
 returns-3 c =
-    let a = c .before .before .before .before .before .before .before .args in
+    let a = c .before .before .before .before .before .args in
     let came = c .commit .ensures in
     comes-to _ _ (step-is (a .words .now) (a .list .now) (a .e) _ (c .before .before .before .enum-told3 .given .1)) _ _ _ (came .0) (came .1 .0) (came .1 .1)
 
 returns-4 : tie.Need-returns-4
 returns-4 c =
-    let a = c .before .before .before .before .before .before .before .args in
+    let a = c .before .before .before .before .before .args in
     let came = c .finish .ensures in
     comes-to _ _ (step-is (a .words .now) (a .list .now) (a .e) _ (c .before .before .before .enum-told4 .given .1)) _ _ _ (came .0) (came .1 .0) (came .1 .1)
 

@@ -27,7 +27,13 @@ use Rattle.seek.proofs.Laws.Loops.{any-stays, groupOf, group-in}
 use Rattle.seek.proofs.contest.contested_of.Statement.{statement}
 use Rattle.seek.proofs.contest.contested_of.Tie as tie
 
+-- a word of which no bit is set is 0
+no-word : (f : ℕ → Bool) → ((b : ℕ) → b < 64 → f b ≡ false) → 0 ≡ word 64 f
+no-word f none = word-eq 64 0 (word 64 f) (omega arith) (word-lt 64 f) (λ b l. bit-zero b ∙ sym (bit-word 64 f b l ∙ none b l))
+
 module _ (w : List ℕ) (i g : ℕ) where
+  -- ---- the objects
+
   -- task j is executing and clashes with task i on object b
   abbrev clashing : ℕ → ℕ → Bool
   clashing b j = bit (executingOf w) j && clashOn (setsIn w i) (setsIn w j) b
@@ -38,9 +44,7 @@ module _ (w : List ℕ) (i g : ℕ) where
 
   -- no task, no object
   word-none : 0 ≡ wordBelow 0
-  word-none =
-      word-eq 64 0 (wordBelow 0) (omega arith) (word-lt 64 (λ b. any 0 (clashing (g * 64 + b))))
-      (λ b l. bit-zero b ∙ sym (bit-word 64 (λ b. any 0 (clashing (g * 64 + b))) b l ∙ any-empty (clashing (g * 64 + b))))
+  word-none = no-word (λ b. any 0 (clashing (g * 64 + b))) (λ b l. any-empty (clashing (g * 64 + b)))
 
   -- a task that is not executing adds nothing
   word-stays : (j : ℕ) → bit (executingOf w) j ≡ false → wordBelow (j + 1) ≡ wordBelow j
@@ -68,6 +72,24 @@ module _ (w : List ℕ) (i g : ℕ) where
       (word-in-bit j b l ∙ ap (λ (t : Bool). t && clashOn (setsIn w i) (setsIn w j) (g * 64 + b)) (sym e))
       ∙ sym (bit-word 64 (λ b. any (j + 1) (clashing (g * 64 + b))) b l ∙ any-more j (clashing (g * 64 + b))))
 
+  -- the walk starts: no object is contested yet
+  contested-start : (rest : ℕ) → rest ≡ executingOf w → 0 ≡ wordBelow (lowest rest)
+  contested-start rest e = word-none ∙ sym (count-start (executingOf w) wordBelow word-stays rest e)
+
+  -- a turn adds the contested objects of its task
+  contested-turn : {rest place : ℕ} (turn : Turn (executingOf w) rest place) (less : ℕ) → less ≡ withoutBit rest (place % 64) → (was more : ℕ) (x : Group)
+      → was ≡ wordBelow (lowest rest) → x ≡ groupIn w i (place % 64) g → more ≡ wordIn x → bitOr was more ≡ wordBelow (lowest less)
+  contested-turn {rest} {place} turn less e was more x seen found is =
+      ap₂ bitOr (seen ∙ ap wordBelow (sym (turn-place turn))) (is ∙ ap wordIn found)
+      ∙ word-more (place % 64) (turn-one turn) ∙ sym (turn-count turn less e wordBelow word-stays)
+
+  -- the walk ends: they are those of all
+  contested-end : (rest found : ℕ) → rest ≡ 0 → found ≡ wordBelow (lowest rest) → found ≡ contestedGroups w i g
+  unfolding contestedGroups
+  contested-end rest found e seen = seen ∙ ap wordBelow (lowest-zero rest e)
+
+  -- ---- the tasks
+
   -- task j is one of those with which task i clashes in the group
   abbrev among : ℕ → Bool
   among j = bit (executingOf w) j && groupClashes (groupIn w i j g)
@@ -82,11 +104,9 @@ module _ (w : List ℕ) (i g : ℕ) where
     own-none : 0 ≡ contestedGroups w i g
     unfolding contestedGroups
     own-none =
-        word-eq 64 0 (wordBelow 64) (omega arith) (word-lt 64 (λ b. any 64 (clashing (g * 64 + b))))
-        (λ b l. bit-zero b
-        ∙ sym (bit-word 64 (λ b. any 64 (clashing (g * 64 + b))) b l
-        ∙ any-none 64 (clashing (g * 64 + b))
-        (λ j m. ap (λ (t : Bool). bit (executingOf w) j && t) (sym (word-in-bit j b l) ∙ no-bit j b l) ∙ and-false (bit (executingOf w) j))))
+        no-word (λ b. any 64 (clashing (g * 64 + b)))
+        (λ b l. any-none 64 (clashing (g * 64 + b))
+        (λ j m. ap (λ (t : Bool). bit (executingOf w) j && t) (sym (word-in-bit j b l) ∙ no-bit j b l) ∙ and-false (bit (executingOf w) j)))
 
     -- and nobody is clashed with
     nobody : (j : ℕ) → j < 64 → bit 0 j ≡ among j
@@ -96,8 +116,6 @@ module _ (w : List ℕ) (i g : ℕ) where
         ∙ sym (ap (λ (t : Bool). bit (executingOf w) j && t)
         (group-contested-bits (x .reads) (x .writes) (x .«other_reads») (x .«other_writes») ∙ any-none 64 (bit (wordIn x)) (λ b m. no-bit j b m))
         ∙ and-false (bit (executingOf w) j))
-
-  -- ---- the tasks
 
   -- those of them that the walk has passed: the rest is to come
   abbrev Told : ℕ → ℕ → Type 0
@@ -160,24 +178,6 @@ module _ (w : List ℕ) (i g : ℕ) where
   -- the walk ends: all are passed
   told-end : (rest tasks : ℕ) → rest ≡ 0 → Told rest tasks → (j : ℕ) → j < 64 → bit tasks j ≡ among j
   told-end rest tasks e seen j l = seen j l ∙ ap (λ (x : ℕ). not (bit x j) && among j) e ∙ ap (λ (b : Bool). not b && among j) (bit-zero j)
-
-  -- ---- the objects
-
-  -- the walk starts: no object is contested yet
-  contested-start : (rest : ℕ) → rest ≡ executingOf w → 0 ≡ wordBelow (lowest rest)
-  contested-start rest e = word-none ∙ sym (count-start (executingOf w) wordBelow word-stays rest e)
-
-  -- a turn adds the contested objects of its task
-  contested-turn : {rest place : ℕ} (turn : Turn (executingOf w) rest place) (less : ℕ) → less ≡ withoutBit rest (place % 64) → (was more : ℕ) (x : Group)
-      → was ≡ wordBelow (lowest rest) → x ≡ groupIn w i (place % 64) g → more ≡ wordIn x → bitOr was more ≡ wordBelow (lowest less)
-  contested-turn {rest} {place} turn less e was more x seen found is =
-      ap₂ bitOr (seen ∙ ap wordBelow (sym (turn-place turn))) (is ∙ ap wordIn found)
-      ∙ word-more (place % 64) (turn-one turn) ∙ sym (turn-count turn less e wordBelow word-stays)
-
-  -- the walk ends: they are those of all
-  contested-end : (rest found : ℕ) → rest ≡ 0 → found ≡ wordBelow (lowest rest) → found ≡ contestedGroups w i g
-  unfolding contestedGroups
-  contested-end rest found e seen = seen ∙ ap wordBelow (lowest-zero rest e)
 
 abbrev Inv-loop : tie.InvT-loop
 Inv-loop words i g at objects₀ tasks₀ rest₀ objects tasks rest =

@@ -1,7 +1,7 @@
 // The writers: no room, bad values, and each kind written, read and written again.
 use crate::modes::in_mode;
 use crate::print;
-use log::Found;
+use logs::Found;
 use rules::{Event, Kind, Setup, Terms};
 
 // Whether two buffers hold the same bytes.
@@ -61,7 +61,7 @@ fn event_back(kind: Kind) {
     let mut buf = [0u8; 80];
     let mut again = [0u8; 80];
     print::wrote(writing::write_event(&mut buf, 3, event(kind)));
-    let found = log::read(&buf, 3);
+    let found = logs::read(&buf, 3);
     print::found(found);
     let Found::Record {
         kind: number,
@@ -71,7 +71,7 @@ fn event_back(kind: Kind) {
     else {
         return;
     };
-    let e = log::event_of(number, log::body(&buf, 3));
+    let e = logs::event_of(number, logs::body(&buf, 3));
     print::wrote(writing::write_event(&mut again, 3, e));
     print::same(same(&buf, &again));
 }
@@ -82,7 +82,7 @@ fn setup_back(mode: u8) {
     let mut again = [0u8; 80];
     let u = in_mode(mode, setup(2, 3, 513, 86400000));
     print::wrote(writing::write_setup(&mut buf, 1, u));
-    let found = log::read(&buf, 1);
+    let found = logs::read(&buf, 1);
     print::found(found);
     let Found::Record {
         kind,
@@ -92,7 +92,7 @@ fn setup_back(mode: u8) {
     else {
         return;
     };
-    let back = log::setup_of(kind, log::body(&buf, 1));
+    let back = logs::setup_of(kind, logs::body(&buf, 1));
     print::same(setup::same_setup(u, back));
     print::wrote(writing::write_setup(&mut again, 1, back));
     print::same(same(&buf, &again));
@@ -103,8 +103,8 @@ fn mode_setup_back() {
     let mut buf = [0u8; 80];
     let u = setup(2, 3, 513, 86400000);
     print::wrote(writing::write_mode_setup(&mut buf, 1, u));
-    print::found(log::read(&buf, 1));
-    let back = log::setup_of(7, log::body(&buf, 1));
+    print::found(logs::read(&buf, 1));
+    let back = logs::setup_of(7, logs::body(&buf, 1));
     print::same(setup::same_setup(u, back));
     print::same(setup::same_setup(in_mode(1, u), back));
 }
@@ -119,8 +119,8 @@ pub(crate) fn each_kind() {
     event_back(Kind::Finish);
     let mut buf = [0u8; 80];
     print::wrote(writing::write_end(&mut buf, 0, 4294967295));
-    print::found(log::read(&buf, 0));
+    print::found(logs::read(&buf, 0));
     print::text(b"count");
-    print::then(log::count_of(log::body(&buf, 0)) as u64);
+    print::then(logs::count_of(logs::body(&buf, 0)) as u64);
     print::text(b"\n");
 }

@@ -47,8 +47,8 @@ pub(crate) fn read_back() {
         \x80\x00\x00\x00\x00\x00\x00\x00\x00\x00\x00\x00\x00\x00\x00\x00\x00\x00\x00\x00\x00\x00\x00\x00\x00\x00\x00\x00\x00\x00\x00\x00";
     read(lists, 0);
     read(sets, 0);
-    print::same(same_event(reads_three(), log::event_of(8, log::body(lists, 0))));
-    print::same(same_event(reads_three(), log::event_of(3, log::body(sets, 0))));
+    print::same(same_event(reads_three(), logs::event_of(8, logs::body(lists, 0))));
+    print::same(same_event(reads_three(), logs::event_of(3, logs::body(sets, 0))));
 }
 
 // All objects read and written: a body of 9 + 256 + 256 = 521 bytes, 9 and 2 in bytes; each count is 0 and 1.
@@ -62,7 +62,7 @@ pub(crate) fn all_objects() {
         first_of(&buf, 14),
         b"\x09\x02\x08\x00\x04\x03\x02\x01\x01\x00\x01\x00\x01\x00",
     ));
-    print::same(same_event(e, log::event_of(8, log::body(&buf, 0))));
+    print::same(same_event(e, logs::event_of(8, logs::body(&buf, 0))));
 }
 
 // The lengths of a record by sets and by lists.

@@ -1,6 +1,6 @@
 // What was answered, on standard output: the lines of document 01 as the crate text writes them, and what the log's functions say.
 use libc::STDOUT_FILENO;
-use log::{Found, Step};
+use logs::{Found, Step};
 use moving::Converted;
 use rules::{Admission, Answer, Event, Said, Setup, Summed};
 use text::Put;

@@ -1,6 +1,6 @@
 // The log by its smallest bytes: each refusal from 20 to 27, and each place of a record in a log.
 use crate::print;
-use log::Cursor;
+use logs::Cursor;
 
 // The first so many bytes, or all where there are fewer.
 pub(crate) fn first_of(bytes: &[u8], many: usize) -> &[u8] {
@@ -12,12 +12,12 @@ pub(crate) fn first_of(bytes: &[u8], many: usize) -> &[u8] {
 
 // The number of the record at a place.
 pub(crate) fn read(bytes: &[u8], at: usize) {
-    print::found(log::read(bytes, at));
+    print::found(logs::read(bytes, at));
 }
 
 // The number of a whole log, and how many events were read.
 pub(crate) fn whole(bytes: &[u8]) {
-    let answer = log::read_whole(bytes);
+    let answer = logs::read_whole(bytes);
     print::text(b"log");
     print::then(answer.number as u64);
     print::then(answer.events as u64);
@@ -115,12 +115,12 @@ pub(crate) fn full_log() {
         release: 0,
         events: 4294967295,
     };
-    print::step(log::next_step(b"\x05\x00\x02\x00\x00\x00\x00\x00\x00", full));
+    print::step(logs::next_step(b"\x05\x00\x02\x00\x00\x00\x00\x00\x00", full));
     let room = Cursor {
         at: 0,
         started: true,
         release: 0,
         events: 4294967294,
     };
-    print::step(log::next_step(b"\x05\x00\x02\x00\x00\x00\x00\x00\x00", room));
+    print::step(logs::next_step(b"\x05\x00\x02\x00\x00\x00\x00\x00\x00", room));
 }

@@ -1,7 +1,7 @@
 // The values that the rules speak of. What happens to them is in specs/; there is no function here.
 
 // What a setup says of one task. Priority: larger is higher. Period: in ticks. Transactions: how many one job may release.
-#[derive(Drop)]
+#[derive(Clone, Copy)]
 pub struct Terms {
     pub priority: u16,
     pub period: u32,
@@ -9,7 +9,7 @@ pub struct Terms {
 }
 
 // A setup: m processors, n tasks, the mode, and the terms of each task below n. Mode 0 ranks by fixed priority, mode 1 by deadline. What stands past n means nothing.
-#[derive(Drop)]
+#[derive(Clone, Copy)]
 pub struct Setup {
     pub m: u8,
     pub n: u8,
@@ -18,7 +18,7 @@ pub struct Setup {
 }
 
 // A wait: the tick of its release, how many clashing transactions have committed since, and at how many of those commits it ran, just before, on a processor.
-#[derive(Drop)]
+#[derive(Clone, Copy)]
 pub struct Wait {
     pub release: u32,
     pub clashes: u32,
@@ -26,7 +26,7 @@ pub struct Wait {
 }
 
 // A task is in exactly one of these.
-#[derive(Drop)]
+#[derive(Clone, Copy)]
 pub enum State {
     Absent,
     Plain,
@@ -35,14 +35,14 @@ pub enum State {
 }
 
 // A task's last arrival, if any.
-#[derive(Drop)]
+#[derive(Clone, Copy)]
 pub enum Arrival {
     Never,
     At(u32),
 }
 
 // A task: its terms, its state, its last arrival, the releases accepted in its present job, and what that job ranks by, smaller is higher. Both are 0 while it is absent.
-#[derive(Drop)]
+#[derive(Clone, Copy)]
 pub struct Task {
     pub terms: Terms,
     pub state: State,
@@ -52,7 +52,7 @@ pub struct Task {
 }
 
 // A session. Group g of task i's read set is reads[i * 4 + g], and so for its write set.
-#[derive(Drop)]
+#[derive(Clone, Copy)]
 pub struct Session {
     pub m: u8,
     pub n: u8,
@@ -65,7 +65,7 @@ pub struct Session {
 }
 
 // The four events.
-#[derive(Drop)]
+#[derive(Clone, Copy)]
 pub enum Kind {
     Arrive,
     Release,
@@ -74,7 +74,7 @@ pub enum Kind {
 }
 
 // An event. The two sets count for a release only.
-#[derive(Drop)]
+#[derive(Clone, Copy)]
 pub struct Event {
     pub kind: Kind,
     pub tick: u32,
@@ -85,7 +85,7 @@ pub struct Event {
 
 // What is said of a setup or an event: accepted; a release that runs; one that waits, with the lowest contested object, how many are contested, and
 // whom it waits for, the highest ranked executing task that it clashes with; refused, with the number.
-#[derive(Drop)]
+#[derive(Clone, Copy)]
 pub enum Said {
     Ok,
     Run,
@@ -98,7 +98,7 @@ pub enum Said {
 }
 
 // A task that a scan admitted, with its clash count and its retry count.
-#[derive(Drop)]
+#[derive(Clone, Copy)]
 pub struct Admission {
     pub task: u8,
     pub clashes: u32,
@@ -106,14 +106,14 @@ pub struct Admission {
 }
 
 // The admissions of one scan, in their order. The places from count on are 0.
-#[derive(Drop)]
+#[derive(Clone, Copy)]
 pub struct Admissions {
     pub count: u8,
     pub list: [Admission; 16],
 }
 
 // The answer to an event, with the session after it.
-#[derive(Drop)]
+#[derive(Clone, Copy)]
 pub struct Answer {
     pub said: Said,
     pub admitted: Admissions,
@@ -121,14 +121,14 @@ pub struct Answer {
 }
 
 // The answer to a setup, with the session that it gives or that stands in its place.
-#[derive(Drop)]
+#[derive(Clone, Copy)]
 pub struct Started {
     pub said: Said,
     pub session: Session,
 }
 
 // The answer to a question for the sum: its number, and the sum.
-#[derive(Drop)]
+#[derive(Clone, Copy)]
 pub struct Summed {
     pub number: u8,
     pub sum: u64,

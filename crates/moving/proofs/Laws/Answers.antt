@@ -8,7 +8,7 @@ use lib.Dec.{eqb, leb}
 use lib.ListN.{length}
 use borrow.Author.Tests.{eq-eqb, ne_eqb, eqb-true}
 use Rattle.objects.proofs.Laws.Below.{not_both}
-use Rattle.log.specs.Order.{whole_log}
+use Rattle.logs.specs.Order.{whole_log}
 use Rattle.moving.specs.Logs.{converted}
 use Rattle.moving.specs.Convert.{copied_kind, over, start_reading, copying, moved_bytes, convert_number, converts, converted_into}
 use Rattle.moving.proofs.Moved.{converter_converts}

@@ -441,12 +441,16 @@ least_first k f = least_one (suc k) f (least (suc k) f) (cond (f 0) 0 (suc rest)
     rest : ℕ
     rest = least k (λ j. f (suc j))
 
+    early : f 0 ≡ false → (j : ℕ) → j < suc rest → f j ≡ false
+    early e zero l = e
+    early e (suc i) l = least_before k (λ j. f (suc j)) i (le_of_suc-le-suc l)
+
     go : (b : Bool) → f 0 ≡ b → Least (suc k) f (cond b 0 (suc rest))
     go true e = record { bound = zero-le; found = λ l. e; before = λ j l. absurd (not-suc-le-zero l) }
     go false e = record {
       bound = suc-le-suc (least_le k (λ j. f (suc j)));
       found = λ l. least_has k (λ j. f (suc j)) (le_of_suc-le-suc l);
-      before = λ j. elim j [ zero ↦ λ l. e | suc i ↦ λ l. least_before k (λ j. f (suc j)) i (le_of_suc-le-suc l) ];
+      before = early e;
     }
 
 -- the least of two runs: of the first where it has one, and else past it

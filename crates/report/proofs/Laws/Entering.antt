@@ -51,7 +51,7 @@ pub entered_agree : {figures : List Figures} {booked new : List Item} → Agree 
     → Agree (entered figures new) (booked ++ new)
 unfolding entered
 entered_agree {figures} {booked} p none = rw (append-nil booked) p
-entered_agree {figures} {booked} p (more {x = x} {xs = xs} l q) = rw (append_snoc booked x xs) at (entered_agree (enter_agree p x l) q)
+entered_agree {figures} {booked} p (more {x = x} {xs = xs} l q) = rw (append_snoc booked x xs) at (entered_agree {figures = enter figures x} (enter_agree p x l) q)
 
 -- ---- the totals
 
@@ -150,7 +150,7 @@ pub enterable_fitting : {figures : List Figures} {booked new : List Item} → Ag
 unfolding enterable
 enterable_fitting {figures} {booked} p none e = rw (append-nil booked) (sym e)
 enterable_fitting {figures} {booked} p (more {x = x} {xs = xs} l q) e =
-    go (fitting (booked ++ (x ∷ []))) refl (enterable_fitting (enter_agree p x l) q)
+    go (fitting (booked ++ (x ∷ []))) refl (enterable_fitting {figures = enter figures x} (enter_agree p x l) q)
   where
     new : List Item
     new = booked ++ (x ∷ [])

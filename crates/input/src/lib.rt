@@ -4,7 +4,7 @@ ghost use Rattle.input.specs.Block.{Kept, Behind, Read};
 ghost use Rattle.input.specs.Part.{part};
 
 // What one read gives: where the bytes in the window end, whether it failed, and whether the input has ended.
-#[derive(Drop)]
+#[derive(Clone, Copy)]
 pub struct Block {
     pub end: usize,
     pub failed: bool,

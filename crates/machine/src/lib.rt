@@ -8,7 +8,7 @@ pub type Words = [u64; 1280];
 pub type Admitted = [u64; 64];
 
 // The answer to an event: what is said, and how many tasks its scan admitted.
-#[derive(Drop)]
+#[derive(Clone, Copy)]
 pub struct Reply {
     pub said: Said,
     pub admitted: u8,

@@ -13,7 +13,7 @@ pub use tries::again;
 pub use words::{number_of, word_of};
 
 // What a word of a call is: nothing at all; standard input, which is `-`; a flag, any other word that begins so; or a name.
-#[derive(Drop)]
+#[derive(Clone, Copy)]
 pub enum Word {
     Empty,
     Input,
@@ -22,14 +22,14 @@ pub enum Word {
 }
 
 // The number that a word says, or that it says none.
-#[derive(Drop)]
+#[derive(Clone, Copy)]
 pub enum Number {
     Is(u32),
     Not,
 }
 
 // How a program was called: where its own words begin and end, and whether it was given a descriptor for its verdict, and which.
-#[derive(Drop)]
+#[derive(Clone, Copy)]
 pub struct Call {
     pub first: usize,
     pub end: usize,
@@ -38,7 +38,7 @@ pub struct Call {
 }
 
 // A log that a word of the call names: its descriptor, how many bytes its name has, and the verdict so far, which is 0 where it can be read.
-#[derive(Drop)]
+#[derive(Clone, Copy)]
 pub struct Log {
     pub fd: i32,
     pub size: usize,
@@ -46,7 +46,7 @@ pub struct Log {
 }
 
 // What of some bytes was written: how many, and whether that is all of them.
-#[derive(Drop)]
+#[derive(Clone, Copy)]
 pub struct Sent {
     pub taken: usize,
     pub whole: bool,

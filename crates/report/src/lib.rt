@@ -3,7 +3,7 @@ use rules::{Admissions, Said, Session, Setup};
 
 // The figures of one task: transactions committed, how many of them had waited, and of its waits that are booked all clashes, all retries, the longest in
 // ticks, the ticks of all, and how many they are.
-#[derive(Drop)]
+#[derive(Clone, Copy)]
 pub struct Figures {
     pub committed: u32,
     pub waited: u32,
@@ -15,7 +15,7 @@ pub struct Figures {
 }
 
 // A tally: whether a setup has been taken, that setup, and the figures of each task.
-#[derive(Drop)]
+#[derive(Clone, Copy)]
 pub struct Tally {
     pub taken: bool,
     pub setup: Setup,
@@ -23,21 +23,21 @@ pub struct Tally {
 }
 
 // A session that is open for booking: the manager's session, and of each task whether the transaction that it released last had to wait.
-#[derive(Drop)]
+#[derive(Clone, Copy)]
 pub struct OpenSession {
     pub session: Session,
     pub waited: [bool; 64],
 }
 
 // The answer to the opening of a session: its number, and the open session, or what stands in its place.
-#[derive(Drop)]
+#[derive(Clone, Copy)]
 pub struct Opened {
     pub number: u8,
     pub after: OpenSession,
 }
 
 // The answer to an event: the number that refuses it or its booking; what the manager said and admitted; and the open session after it.
-#[derive(Drop)]
+#[derive(Clone, Copy)]
 pub struct Booked {
     pub number: u8,
     pub said: Said,
@@ -46,14 +46,14 @@ pub struct Booked {
 }
 
 // What opening a session makes of a tally, and the answer.
-#[derive(Drop)]
+#[derive(Clone, Copy)]
 pub struct WithOpened {
     pub tally: Tally,
     pub opened: Opened,
 }
 
 // What booking an event makes of a tally, and the answer.
-#[derive(Drop)]
+#[derive(Clone, Copy)]
 pub struct WithBooked {
     pub tally: Tally,
     pub booked: Booked,

@@ -8,7 +8,7 @@ use crate::bits::{lowest_of, without_bit};
 use machine::Words;
 
 // One group of two transactions: the words of the first, then of the second.
-#[derive(Drop)]
+#[derive(Clone, Copy)]
 pub(crate) struct Group {
     pub reads: u64,
     pub writes: u64,

@@ -12,7 +12,7 @@ use machine::Words;
 use rules::Said;
 
 // What is contested of one group: its objects, and the executing tasks that a transaction clashes with on them, a bit for each.
-#[derive(Drop)]
+#[derive(Clone, Copy)]
 pub(crate) struct Contested {
     pub objects: u64,
     pub tasks: u64,

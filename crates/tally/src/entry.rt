@@ -13,7 +13,7 @@ use report::{Figures, Tally};
 use rules::{Event, Kind, Said};
 
 // The figures of all tasks after items, and whether no total passes.
-#[derive(Drop)]
+#[derive(Clone, Copy)]
 pub(crate) struct Entered {
     pub fits: bool,
     pub figures: [Figures; 64],

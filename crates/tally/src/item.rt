@@ -7,7 +7,7 @@ ghost use Rattle.tally.specs.Parts.{added, counted, passing};
 use report::Figures;
 
 // A total with so much more, and whether it fits; where it would pass, it is as it was.
-#[derive(Drop)]
+#[derive(Clone, Copy)]
 pub(crate) struct Sum {
     pub fits: bool,
     pub total: u32,
@@ -42,7 +42,7 @@ fn longer(ticks: u32, other: u32) -> u32
 }
 
 // The figures with one item more, and whether no total passes; where one would, the figures are as they were.
-#[derive(Drop)]
+#[derive(Clone, Copy)]
 pub(crate) struct Counted {
     pub fits: bool,
     pub figures: Figures,

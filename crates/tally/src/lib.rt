@@ -15,7 +15,7 @@ pub use start::empty;
 
 // What is noted of an accepted event, beside the list of its admissions: its tick, its task, whether it commits, whether the transaction that its task released last had to
 // wait, and how many are admitted.
-#[derive(Drop)]
+#[derive(Clone, Copy)]
 pub struct Noted {
     pub tick: u32,
     pub task: u8,
@@ -25,7 +25,7 @@ pub struct Noted {
 }
 
 // What an event makes of a tally, and the number: 41 where a total would pass, and else 0.
-#[derive(Drop)]
+#[derive(Clone, Copy)]
 pub struct WithEntered {
     pub number: u8,
     pub tally: Tally,

@@ -10,7 +10,7 @@ pub use place::{put_number, put_word};
 pub type Listed = [u64; 64];
 
 // What a writer answers: the next place, or that there is no room.
-#[derive(Drop)]
+#[derive(Clone, Copy)]
 pub enum Put {
     Next(usize),
     Full,

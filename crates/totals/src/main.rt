@@ -68,7 +68,7 @@ fn event_at(tick: u32) -> Event {
 }
 
 // The totals, in the sheet's order.
-#[derive(Drop)]
+#[derive(Clone, Copy)]
 enum Total {
     Committed,
     Waited,
@@ -162,7 +162,7 @@ fn same_row(a: &[u32; 8], b: &[u32; 8]) -> bool {
 }
 
 // A tally and an open session.
-#[derive(Drop)]
+#[derive(Clone, Copy)]
 struct Place {
     tally: Tally,
     after: OpenSession,

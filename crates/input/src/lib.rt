@@ -1,69 +1,95 @@
-// Bytes from a descriptor, in a window: read behind those that it holds, and what is left of them moved to its front.
-ghost use Rattle.std.specs.Prelude.{◌≡◌, ◌++◌, ◌≤◌, ◌<◌, length, drop};
+// Bytes from a reader, in a window: read behind those that it holds, and what is left of them moved to its front.
+#![tactic(auto)]
+
+ghost use Rattle.std.specs.Prelude.{◌≡◌, ◌++◌, ◌≤◌, ◌<◌, ◌+◌, length, drop, IfOk};
 ghost use Rattle.input.specs.Block.{Kept, Behind, Read};
 ghost use Rattle.input.specs.Part.{part};
 
-// What one read gives: where the bytes in the window end, whether it failed, and whether the input has ended.
+use std::io::{Error, Read};
+use std::rt::HostRuntime;
+
+// What one read gives: where the bytes in the window end, whether it failed, whether the input has ended, and the error of a read that failed.
 #[derive(Clone, Copy)]
 pub struct Block {
     pub end: usize,
     pub failed: bool,
     pub last: bool,
+    pub error: Option<Error>,
 }
 
-// Reads once behind the bytes that wait.
-fn read_once(fd: i32, window: &mut [u8], filled: usize) -> isize
+// Reads once behind the bytes that wait. The answer is how many bytes came, or the error where it failed.
+fn read_once<R: Read>(from: &mut R, window: &mut [u8], filled: usize) -> Result<usize, Error>
     requires { filled < length window.old }
-    ensures { Kept window.old filled window.new }
+    ensures kept { Kept window.old filled window.new }
+    ensures within { IfOk result (λ more. filled + more ≤ length window.old) }
 {
-    libc::read(fd, &mut window[filled..])
+    from.read(&mut window[filled..])
 }
 
 // Reads behind the bytes that wait, as often as it is worth another try.
-fn read_tries(fd: i32, window: &mut [u8], filled: usize) -> isize
+fn read_tries<R: Read>(
+    rt: &HostRuntime,
+    from: &mut R,
+    window: &mut [u8],
+    filled: usize,
+) -> Result<usize, Error>
     requires { filled < length window.old }
-    ensures { Kept window.old filled window.new }
+    ensures kept { Kept window.old filled window.new }
+    ensures within { IfOk result (λ more. filled + more ≤ length window.old) }
 {
-    let mut turns = u64::MAX;
-    let mut got: isize = -1;
-    while turns > 0 {
-        turns -= 1;
-        got = read_once(fd, window, filled);
-        if got >= 0 {
-            break;
-        }
-        if !outside::again(os::errno()) {
-            break;
+    for _ in 0..u64::MAX {
+        match read_once(from, window, filled) {
+            Ok(more) => return Ok(more),
+            Err(error) => {
+                if !outside::again(rt, outside::code_of(error)) {
+                    return Err(error);
+                }
+            }
         }
     }
-    got
+    Ok(0)
 }
 
 // Reads behind the bytes that wait. Where the input has ended, or the read failed, nothing came.
-fn read_behind(fd: i32, window: &mut [u8], filled: usize) -> Block
+fn read_behind<R: Read>(rt: &HostRuntime, from: &mut R, window: &mut [u8], filled: usize) -> Block
     requires { filled < length window.old }
     ensures { Behind window.old filled window.new result }
 {
-    let got = read_tries(fd, window, filled);
-    let more = io::count(got, &window[filled..]);
+    let mut more = 0;
+    let mut error = None;
+    match read_tries(rt, from, window, filled) {
+        Ok(got) => {
+            more = got;
+        }
+        Err(reason) => {
+            error = Some(reason);
+        }
+    }
     if more == 0 {
-        let failed = got < 0;
+        let failed = error.is_some();
         return Block {
             end: filled,
             failed: failed,
             last: !failed,
+            error: error,
         };
     }
     Block {
         end: filled + more,
         failed: false,
         last: false,
+        error: None,
     }
 }
 
 // Reads behind the bytes that the window holds, at least one byte unless the input has ended or the read failed. Which bytes come is the system's to say. A window with no
 // room, or that would hold more bytes than it has, is not read, which is a failure.
-pub fn read_block(fd: i32, window: &mut [u8], filled: usize) -> Block
+pub fn read_block<R: Read>(
+    rt: &HostRuntime,
+    from: &mut R,
+    window: &mut [u8],
+    filled: usize,
+) -> Block
     ensures within { result.end ≤ length window.old }
     ensures reads { Read window.old filled window.new result }
 {
@@ -72,9 +98,10 @@ pub fn read_block(fd: i32, window: &mut [u8], filled: usize) -> Block
             end: window.len(),
             failed: true,
             last: false,
+            error: None,
         };
     }
-    read_behind(fd, window, filled)
+    read_behind(rt, from, window, filled)
 }
 
 // How many bytes stand from a place up to an end.

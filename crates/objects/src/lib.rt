@@ -1,4 +1,6 @@
 // The 256 objects as four groups of 64: where two transactions clash in a group, the lowest object of four groups, and how many they hold.
+#![tactic(auto)]
+
 ghost use Rattle.std.specs.Prelude.{◌≡◌};
 ghost use Rattle.objects.specs.Objects.{contested_word, group_contested, groups_at, lowest_object, how_many};
 

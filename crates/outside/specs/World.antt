@@ -2,6 +2,8 @@
 use Rattle.std.specs.Prelude.{ℕ, ◌≤◌, min, ◌≡◌, List, Bool, true, false, ◌||◌, eqb, ℤ, pos, negsuc, length, set}
 use Rattle.outside.specs.declared.Log.{Log}
 use Rattle.outside.specs.declared.Sent.{Sent}
+use Rattle.outside.specs.declared.source.Source.{Source}
+use Rattle.outside.specs.declared.source.Source.TheVariants.{Input, Opened}
 
 -- a call that was interrupted (4), or that would have had to wait (11), is tried again
 abbrev pub passing : ℤ → Bool
@@ -13,9 +15,14 @@ pub record Written (bytes : List ℕ) (sent : Sent) : Type 0 where
   pub within : sent.taken ≤ length bytes
   pub whole : sent.whole ≡ eqb sent.taken (length bytes)
 
+-- the bytes come from standard input
+abbrev pub IsInput : Source → Type 0
+IsInput (Input stream) = Unit {0}
+IsInput (Opened file) = ⊥
+
 -- standard input, which can be read as far as a call can say; its name, `-`, stands at the front of the bytes that were lent for it, if there are any, and the others stay
 pub record StandardInput (before after : List ℕ) (log : Log) : Type 0 where
-  pub descriptor : log.fd ≡ pos 0
+  pub descriptor : IsInput log.source
   pub good : log.verdict ≡ 0
   pub size : log.size ≡ min 1 (length before)
   pub name : after ≡ set before 0 45

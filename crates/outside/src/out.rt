@@ -1,96 +1,139 @@
 // Bytes written out, what is said on standard error, and the verdict. Each that says something went wrong answers the verdict that it leads to.
-ghost use Rattle.std.specs.Prelude.{◌≡◌, false, ◌+◌, ◌≤◌, length};
+ghost use Rattle.std.specs.Prelude.{◌≡◌, false, ◌+◌, ◌≤◌, length, IfOk};
 ghost use Rattle.outside.specs.World.{Written};
 
-use crate::tries::again;
+use crate::tries::{again, code_of};
 use crate::{Call, Sent};
-use libc::{STDERR_FILENO, STDOUT_FILENO};
+use std::fs::File;
+use std::io::{Error, Write};
+use std::rt::HostRuntime;
 
-// Writes once, from a place on, and as often as it is worth another try where nothing was taken. The answer is how many bytes the system took, 0 where it failed.
-fn write_some(fd: i32, bytes: &[u8], from: usize) -> usize
+// Writes once, from a place on, and as often as it is worth another try where nothing was taken. The answer is how many bytes the system took, or the error where it failed.
+fn write_some<W: Write>(
+    rt: &HostRuntime,
+    to: &mut W,
+    bytes: &[u8],
+    from: usize,
+) -> Result<usize, Error>
     requires { from ≤ length bytes.now }
-    ensures { from + result ≤ length bytes.now }
+    ensures { IfOk result (λ taken. from + taken ≤ length bytes.now) }
 {
-    let mut turns = u64::MAX;
-    let mut got: isize = -1;
-    while turns > 0 {
-        turns -= 1;
-        got = libc::write(fd, &bytes[from..]);
-        if got >= 0 {
-            break;
-        }
-        if !again(os::errno()) {
-            break;
+    for _ in 0..u64::MAX {
+        match to.write(&bytes[from..]) {
+            Ok(taken) => return Ok(taken),
+            Err(error) => {
+                if !again(rt, code_of(error)) {
+                    return Err(error);
+                }
+            }
         }
     }
-    io::count(got, &bytes[from..])
+    Ok(0)
 }
 
 // Writes all of the bytes, or stops at the first write that fails or takes nothing.
-pub fn write_out(fd: i32, bytes: &[u8]) -> Sent
+pub fn write_out<W: Write>(rt: &HostRuntime, to: &mut W, bytes: &[u8]) -> Sent
     ensures { Written bytes.now result }
 {
     let mut done: usize = 0;
+    let mut failed = None;
     while done < bytes.len() {
-        let more = write_some(fd, bytes, done);
-        if more == 0 {
-            break;
+        match write_some(rt, to, bytes, done) {
+            Ok(0) => break,
+            Ok(more) => done += more,
+            Err(error) => {
+                failed = Some(error);
+                break;
+            }
         }
-        done += more;
     }
     Sent {
         taken: done,
         whole: done == bytes.len(),
+        error: failed,
+    }
+}
+
+// Writes the bytes to standard error.
+pub(crate) fn complain(rt: &HostRuntime, bytes: &[u8]) {
+    write_out(rt, &mut rt.stderr(), bytes);
+}
+
+// How many bytes of an error's text stand before its number.
+fn reason_size(text: &str) -> usize {
+    text.find(" (os error ").unwrap_or(text.len())
+}
+
+// Says the system's reason for an error, without its number.
+fn say_reason(rt: &HostRuntime, error: Error) {
+    if let Ok(text) = format!(in rt.alloc(); "{error}") {
+        let bytes = text.as_bytes();
+        let size = reason_size(text.as_str());
+        complain(rt, &bytes[..size.min(bytes.len())]);
     }
 }
 
 // Says that what is named failed, with the system's reason: `NAME: REASON`.
-pub fn cannot(name: &[u8]) -> u8
+pub fn cannot(rt: &HostRuntime, name: &[u8], error: Option<Error>) -> u8
     ensures { result ≡ 1 }
 {
-    os::fail(name);
+    complain(rt, name);
+    complain(rt, b": ");
+    match error {
+        Some(error) => say_reason(rt, error),
+        None => complain(rt, b"nothing was taken"),
+    }
+    complain(rt, b"\n");
     1
 }
 
 // Says that a program was called wrongly: `PROGRAM: WHAT: 'WORD'`, and where the word is empty `PROGRAM: WHAT`.
-pub fn wrong(program: &[u8], what: &[u8], word: &[u8]) -> u8
+pub fn wrong(rt: &HostRuntime, program: &[u8], what: &[u8], word: &[u8]) -> u8
     ensures { result ≡ 2 }
 {
-    write_out(STDERR_FILENO, program);
-    write_out(STDERR_FILENO, b": ");
-    write_out(STDERR_FILENO, what);
+    complain(rt, program);
+    complain(rt, b": ");
+    complain(rt, what);
     if word.len() != 0 {
-        write_out(STDERR_FILENO, b": '");
-        write_out(STDERR_FILENO, word);
-        write_out(STDERR_FILENO, b"'");
+        complain(rt, b": '");
+        complain(rt, word);
+        complain(rt, b"'");
     }
-    write_out(STDERR_FILENO, b"\n");
+    complain(rt, b"\n");
     2
 }
 
 // Writes the bytes up to an end to standard output. A write that fails is said.
-pub fn say(bytes: &[u8], end: usize) -> u8
+pub fn say(rt: &HostRuntime, bytes: &[u8], end: usize) -> u8
     ensures { result ≤ 1 }
 {
     let mut size = end;
     if bytes.len() < end {
         size = bytes.len();
     }
-    let sent = write_out(STDOUT_FILENO, &bytes[..size]);
+    let sent = write_out(rt, &mut rt.stdout(), &bytes[..size]);
     if !sent.whole {
-        return cannot(b"standard output");
+        return cannot(rt, b"standard output", sent.error);
     }
     0
 }
 
+// The descriptor of this number, opened for writing.
+fn open_verdict(rt: &HostRuntime, number: i32) -> Option<File> {
+    let path = format!(in rt.alloc(); "/proc/self/fd/{number}").ok()?;
+    File::options().write(true).open(rt, path.as_str()).ok()
+}
+
 // Tells the verdict, one digit, to the descriptor that was given for it, and to none where none was. The answer is whether it was told.
-pub fn tell(c: Call, verdict: u8) -> bool
+pub fn tell(rt: &HostRuntime, c: Call, verdict: u8) -> bool
     ensures { c.given ≡ false → result ≡ false }
 {
     if !c.given {
         return false;
     }
     let digit = [48 + verdict % 10];
-    let sent = write_out(c.verdict, &digit);
-    sent.whole
+    match open_verdict(rt, c.verdict) {
+        Some(mut to) => write_out(rt, &mut to, &digit).whole,
+        None => false,
+    }
 }

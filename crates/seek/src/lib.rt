@@ -1,6 +1,8 @@
 // What the events ask of the machine's words: each question reads the words where they lie. A task's number counts mod 64.
 //
 // Read in this order: bits (a word with a bit for each task), room, clash (who clashes with whom), contest (on which objects, and with whom).
+#![tactic(auto)]
+
 mod bits;
 mod clash;
 mod contest;

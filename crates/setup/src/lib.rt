@@ -1,4 +1,6 @@
 // A setup: the number that refuses it, when two are equal, and the session that it starts.
+#![tactic(auto)]
+
 ghost use Rattle.std.specs.Prelude.{◌≡◌};
 ghost use Rattle.rules.specs.Setup.{terms_number, setup_number, same_terms, same_setup, quiet, no_session, start};
 

@@ -1,4 +1,6 @@
 // The text of a replay's lines, written into a lent buffer.
+#![tactic(auto)]
+
 mod compose;
 mod lines;
 mod place;

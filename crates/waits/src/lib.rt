@@ -1,4 +1,6 @@
 // The waits that are booked: how many they are, where in the row they go, and the wait at the middle and at nine tenths of those that the row holds.
+#![tactic(auto)]
+
 ghost use Rattle.std.specs.Prelude.{◌≡◌, ◌<◌, ◌^◌, min};
 ghost use Rattle.report.specs.Items.{waits_booked};
 ghost use Rattle.report.specs.Sheet.{kept_in, middle, nine_tenths};

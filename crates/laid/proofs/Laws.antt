@@ -1,3 +1,2 @@
--- The laws that the functions of this crate rest on: Given is what a function is told of a state; Laid carries the loops that lay a session in and read it back.
-pub mod Given
+-- The laws that the functions of this crate rest on: Laid carries the loops that lay a session in and read it back.
 pub mod Laid

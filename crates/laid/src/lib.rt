@@ -2,6 +2,8 @@
 // crate machine.
 //
 // Read in this order: numbers (a task's numbers and its sets), put (the whole session laid in), back (read back).
+#![tactic(auto)]
+
 mod back;
 mod numbers;
 mod put;

@@ -1,4 +1,6 @@
 // The manager in place: what a session holds, as words that the caller lends. What stands where is in specs/Places; there is no function here.
+#![tactic(auto)]
+
 use rules::Said;
 
 // What a session holds: its numbers, a word for each of three states, the row of waiting tasks, who ranks above each task, each task's numbers, its sets and its job's rank.

@@ -1,4 +1,6 @@
 // The report's values: the figures of a task, the tally, a session that is open for booking, and the answers. What happens to them is in specs/; there is no function here.
+#![tactic(auto)]
+
 use rules::{Admissions, Said, Session, Setup};
 
 // The figures of one task: transactions committed, how many of them had waited, and of its waits that are booked all clashes, all retries, the longest in

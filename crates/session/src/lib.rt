@@ -2,6 +2,8 @@
 // the events are those of the crate manager, in place.
 //
 // Read in this order: by_value (the calls), then total (the sum).
+#![tactic(auto)]
+
 mod by_value;
 mod total;
 

@@ -1,13 +1,13 @@
 -- A session laid into words, one event, and the session read back: the answer is the rules'.
-use Prim.Native.Nat.{ℕ, zero, suc, ◌+◌, ◌*◌, ◌%◌, ◌^◌, ◌≤◌, ◌<◌, min}
-use mathlib.Core.Path.{◌≡◌, refl, sym, ap, ap₂, subst, ◌∙◌}
-use mathlib.Core.Logic.{◌⊎◌, inl, inr}
+use Prim.Native.Nat.{ℕ, zero, suc, ◌%◌, ◌^◌, ◌≤◌, ◌<◌, min}
+use mathlib.Core.Path.{◌≡◌, sym, ap, ap₂, ◌∙◌}
+use mathlib.Core.Logic.{inl, inr}
 use mathlib.Core.List.{List}
 use mathlib.Core.Bool.{cond, and-false}
 use lib.Dec.{eqb}
 use native.Mathlib.Nat.{lt_of_lt_of_le, ne_of_lt, mod-eq_of_lt}
 use native.Mathlib.Omega.{arith}
-use lib.ListN.{length, get_or, set, replicate, length-replicate, length-set}
+use lib.ListN.{length, get_or, length-replicate, length-set}
 use lib.Seq.{get_or-set_same, get_or-set_other, ext_get_or}
 use Rattle.objects.proofs.Laws.Below.{below_suc, below_or_from}
 use Rattle.rules.specs.declared.Admission.{Admission}

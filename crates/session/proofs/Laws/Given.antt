@@ -1,16 +1,14 @@
 -- What a function is told of a session that it is given: how long the tables are, and that every number fits its place. It is told each field's own relation, in the order
 -- of the fields; that of an array says how long the array is.
 use Prim.Native.Nat.{ℕ, zero, suc, ◌<◌, ◌^◌}
-use mathlib.Core.Path.{◌≡◌, sym, ◌∙◌}
-use mathlib.Core.List.{List, [], ◌∷◌, map}
+use mathlib.Core.Path.{◌≡◌}
+use mathlib.Core.List.{List, [], ◌∷◌}
 use native.Mathlib.Omega.{arith}
-use lib.ListN.{length, length-map, get_or}
 use mir.Val.{Val}
 use denote.Array.{each}
 use denote.Shadow.{shadow}
 use denote.Laws.{Is}
 use denote.Struct.Declared.{row}
-use denote.Struct.Field.{u64-field}
 use Rattle.rules.specs.declared.Wait.{Wait}
 use Rattle.rules.specs.declared.State.{State}
 use Rattle.rules.specs.declared.State.TheVariants.{Absent, Plain, Waiting, Executing}
@@ -18,7 +16,7 @@ use Rattle.rules.specs.declared.Arrival.{Arrival}
 use Rattle.rules.specs.declared.Arrival.TheVariants.{Never, At}
 use Rattle.rules.specs.declared.Task.{Task}
 use Rattle.rules.specs.declared.Session.{Session}
-use Rattle.rules.specs.Tasks.{wait_of, task_at, no_task}
+use Rattle.rules.specs.Tasks.{wait_of, no_task}
 use Rattle.rules.specs.contracts.Task as task
 use Rattle.rules.specs.contracts.Session as session
 use Rattle.machine.specs.Theorem.{Fits, Sized}
@@ -26,14 +24,14 @@ use Rattle.machine.proofs.Fits.{TaskFits, TasksFit, fits_of}
 
 pub sized : (s : Session) (values : List Val) → Is (row session.the_type) s values → Sized s
 sized s values is = record {
-  tasks = sym (length-map s.tasks (task.the_field).into) ∙ is.1.1.1.1.1.1.1.0.1.0.1;
-  reads = sym (length-map s.reads u64-field.into) ∙ is.1.1.1.1.1.1.1.1.0.1.0.1;
-  writes = sym (length-map s.writes u64-field.into) ∙ is.1.1.1.1.1.1.1.1.1.0.1.0.1;
+  tasks = is.1.1.1.1.1.1.1.0.1.0.1;
+  reads = is.1.1.1.1.1.1.1.1.0.1.0.1;
+  writes = is.1.1.1.1.1.1.1.1.1.0.1.0.1;
 }
 
 -- what is told of tasks, each at its machine value
 abbrev Told : List Task → List Val → Type 0
-Told ts us = shadow (each (task.the_field).row.Denot (task.the_field).row.own_val (map (task.the_field).into ts) us)
+Told ts us = shadow (each (task.the_row).Denot (task.the_row).own_val ts us)
 
 -- with another state or another arrival
 abbrev with_state : Task → State → Task

@@ -2,6 +2,8 @@
 // the crate machine, and there it is proved that of words that hold a session it is what the rules say.
 //
 // Read in this order: events (the four events); below them numbers (what refuses one), change (what an accepted one changes) and row (the scan).
+#![tactic(auto)]
+
 mod change;
 mod events;
 mod numbers;

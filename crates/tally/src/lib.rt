@@ -1,6 +1,8 @@
 // The tally: sessions opened and events booked, by value and into a lent tally; and an event booked by the list of its admissions.
 //
 // Read in this order: start (a tally into which nothing has been booked), item (one item and a task's figures), entry (what one event books), by_value (the two calls by value), lent (the same into a lent tally).
+#![tactic(auto)]
+
 mod by_value;
 mod entry;
 mod item;

@@ -202,5 +202,5 @@ arrive_lists w list tick i =
 -- ---- what a function says and leaves, by what it comes to
 
 pub comes_to : (x y : Outcome) → x ≡ y → (r : Reply) (words list : List ℕ) → r ≡ saying x → words ≡ x.words → list ≡ x.list
-    → (r ≡ saying y) × ((words ≡ y.words) × (list ≡ y.list))
-comes_to x y e r words list says leaves lists = rw (← e) (says, (leaves, lists))
+    → (r ≡ saying y) × (words ≡ y.words) × (list ≡ y.list)
+comes_to x y e r words list says leaves lists = rw (← e) (says, leaves, lists)

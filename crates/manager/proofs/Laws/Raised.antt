@@ -4,6 +4,7 @@ use mathlib.Core.Path.{◌≡◌, refl, sym, ◌∙◌}
 use mathlib.Core.List.{List}
 use mathlib.Core.Bool.{Bool, true, false, cond}
 use native.Mathlib.Numerals.{add-one}
+use native.Mathlib.Omega.{arith}
 use lib.Dec.{ltb}
 use Rattle.objects.specs.Below.{count}
 use Rattle.objects.specs.Objects.{bit}
@@ -18,13 +19,17 @@ unfolding ones
 ones_is x = refl
 
 -- a word has at most 64 bits set
-pub ones_few : (x : ℕ) → ones x ≤ 64
+ones_few : (x : ℕ) → ones x ≤ 64
 ones_few x = rw (ones_is x) (count_le 64 (bit x))
 
 -- how many are plain or execute
 pub busy_is : (w : List ℕ) (plains executes : ℕ) → plains ≡ ones (plain_of w) → executes ≡ ones (executing_of w) → plains + executes ≡ busy_in w
 unfolding busy_in
 busy_is w plains executes e f = rw (e, f)
+
+-- and they are at most 128
+pub busy_few : (w : List ℕ) (plains executes : ℕ) → plains ≡ ones (plain_of w) → executes ≡ ones (executing_of w) → plains + executes ≤ 128
+busy_few w plains executes e f = omega (arith, ones_few (plain_of w), ones_few (executing_of w))
 
 module _ (w : List ℕ) (i busy : ℕ) where
   pub raised_none : w ≡ raised_in w i busy 0

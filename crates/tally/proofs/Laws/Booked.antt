@@ -1,5 +1,5 @@
 -- A booking is its parts: what the manager answers, whether the transactions had waited, and what the items of an accepted event make of the tally and of the row.
-use Prim.Native.Nat.{ℕ, zero, suc, ◌%◌, ◌≤◌, ◌<◌, min}
+use Prim.Native.Nat.{ℕ, zero, suc, ◌%◌, min}
 use mathlib.Core.Path.{◌≡◌, refl, sym, ap, ap₂, ◌∙◌}
 use mathlib.Core.Logic.{◌≢◌}
 use mathlib.Core.Bool.{Bool, true, false, cond, ◌&&◌}
@@ -16,16 +16,15 @@ use Rattle.rules.specs.declared.Admissions.{Admissions}
 use Rattle.rules.specs.declared.Answer.{Answer}
 use Rattle.rules.specs.Answers.{number}
 use Rattle.rules.specs.Ranking.{by_rank}
-use Rattle.rules.specs.Scan.{no_admission}
 use Rattle.rules.specs.Events.{step}
 use Rattle.rules.specs.History.{is_commit}
 use Rattle.report.specs.declared.Tally.{Tally}
 use Rattle.report.specs.declared.OpenSession.{OpenSession}
 use Rattle.report.specs.declared.WithBooked.{WithBooked}
 use Rattle.report.specs.Items.{Item, commit, entered, enterable, waits_booked, waits_in, written}
-use Rattle.report.specs.Booking.{wait_item, wait_items, items_in, items, waited_after, book_number, with_figures, booking, row_after}
+use Rattle.report.specs.Booking.{wait_items, items_in, items, waited_after, book_number, with_figures, booking, row_after}
 use Rattle.tally.specs.declared.Noted.{Noted}
-use Rattle.tally.specs.Listed.{listed_wait, listed_waits, listed_items, entering, row_entering}
+use Rattle.tally.specs.Listed.{listed_waits, listed_items, entering, row_entering}
 use Rattle.tally.specs.Parts.{Lists, answered}
 
 -- ---- the items, by the list

@@ -1,6 +1,6 @@
 -- The list of an answer's admissions, four numbers of each: one more is put in, and those before it stay.
 use Prim.Native.Nat.{ℕ, suc, ◌+◌, ◌-◌, ◌*◌, ◌%◌, ◌<◌}
-use mathlib.Core.Path.{◌≡◌, refl, sym, ap, ap₂, ◌∙◌}
+use mathlib.Core.Path.{◌≡◌, refl, ap, ap₂, ◌∙◌}
 use mathlib.Core.Logic.{◌⊎◌, inl, inr, ◌≢◌}
 use mathlib.Core.List.{List}
 use native.Mathlib.Nat.{mod-eq_of_lt, sub_self}
@@ -14,7 +14,7 @@ use Rattle.rules.specs.declared.Task.{Task}
 use Rattle.rules.specs.declared.Admission.{Admission}
 use Rattle.rules.specs.Tasks.{no_task}
 use Rattle.rules.specs.Scan.{no_admission}
-use Rattle.report.specs.Items.{Item, wait}
+use Rattle.report.specs.Items.{wait}
 use Rattle.report.specs.Booking.{ticks_of, wait_item}
 use Rattle.tally.specs.Listed.{listed_wait}
 use Rattle.tally.specs.Parts.{since_of, Lists}

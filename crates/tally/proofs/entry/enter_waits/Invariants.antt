@@ -1,0 +1,13 @@
+-- `tally::entry::enter_waits` meets its contract. The loop's invariant: the waits passed fit, and the figures are those after them.
+use Prim.Native.Nat.{◌≤◌, min}
+use mathlib.Core.Path.{◌≡◌}
+use mathlib.Core.Bool.{true}
+use lib.ListN.{length}
+use Rattle.report.specs.Items.{entered, enterable}
+use Rattle.tally.specs.Listed.{listed_waits}
+use Rattle.tally.proofs.entry.enter_waits.Given as goal
+
+abbrev pub invariant-loop-k : goal.invariant-loop-k
+invariant-loop-k l =
+    (l.end ≡ min l.admitted 16) × (l.k ≤ l.end) × (length l.figures ≡ 64) × (enterable l.initial.figures (listed_waits l.list l.tick l.k) ≡ true)
+    × (l.figures ≡ entered l.initial.figures (listed_waits l.list l.tick l.k))

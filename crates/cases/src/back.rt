@@ -3,22 +3,23 @@ use crate::modes::in_mode;
 use crate::print;
 use logs::Found;
 use rules::{Event, Kind, Setup, Terms};
+use std::rt::HostRuntime;
 
 // Whether two buffers hold the same bytes.
 fn same(a: &[u8], b: &[u8]) -> bool {
-    check::same(a, b)
+    a == b
 }
 
 // 28: past the buffer, at its end, and with one byte too few; no byte is changed.
-pub(crate) fn no_room() {
+pub(crate) fn no_room(rt: &HostRuntime) {
     let mut buf = [7u8; 8];
-    print::wrote(writing::write_end(&mut buf, 9, 0));
-    print::wrote(writing::write_end(&mut buf, 8, 0));
-    print::wrote(writing::write_end(&mut buf, 1, 0));
-    print::wrote(writing::write_end(&mut buf, 18446744073709551615, 0));
-    print::same(same(&buf, b"\x07\x07\x07\x07\x07\x07\x07\x07"));
-    print::wrote(writing::write_end(&mut buf, 0, 258));
-    print::same(same(&buf, b"\x04\x00\x06\x00\x02\x01\x00\x00"));
+    print::wrote(rt, writing::write_end(&mut buf, 9, 0));
+    print::wrote(rt, writing::write_end(&mut buf, 8, 0));
+    print::wrote(rt, writing::write_end(&mut buf, 1, 0));
+    print::wrote(rt, writing::write_end(&mut buf, 18446744073709551615, 0));
+    print::same(rt, same(&buf, b"\x07\x07\x07\x07\x07\x07\x07\x07"));
+    print::wrote(rt, writing::write_end(&mut buf, 0, 258));
+    print::same(rt, same(&buf, b"\x04\x00\x06\x00\x02\x01\x00\x00"));
 }
 
 fn setup(m: u8, n: u8, priority: u16, period: u32) -> Setup {
@@ -35,15 +36,18 @@ fn setup(m: u8, n: u8, priority: u16, period: u32) -> Setup {
 }
 
 // 10 to 14 come before 28, and no byte is changed.
-pub(crate) fn bad_setups() {
+pub(crate) fn bad_setups(rt: &HostRuntime) {
     let mut buf = [7u8; 4];
-    print::wrote(writing::write_setup(&mut buf, 0, setup(0, 1, 1, 1)));
-    print::wrote(writing::write_setup(&mut buf, 0, setup(1, 65, 1, 1)));
-    print::wrote(writing::write_mode_setup(&mut buf, 0, in_mode(2, setup(1, 1, 0, 1))));
-    print::wrote(writing::write_setup(&mut buf, 0, setup(1, 1, 0, 1)));
-    print::wrote(writing::write_setup(&mut buf, 0, setup(1, 1, 1, 0)));
-    print::wrote(writing::write_setup(&mut buf, 0, setup(1, 1, 1, 1)));
-    print::same(same(&buf, b"\x07\x07\x07\x07"));
+    print::wrote(rt, writing::write_setup(&mut buf, 0, setup(0, 1, 1, 1)));
+    print::wrote(rt, writing::write_setup(&mut buf, 0, setup(1, 65, 1, 1)));
+    print::wrote(
+        rt,
+        writing::write_mode_setup(&mut buf, 0, in_mode(2, setup(1, 1, 0, 1))),
+    );
+    print::wrote(rt, writing::write_setup(&mut buf, 0, setup(1, 1, 0, 1)));
+    print::wrote(rt, writing::write_setup(&mut buf, 0, setup(1, 1, 1, 0)));
+    print::wrote(rt, writing::write_setup(&mut buf, 0, setup(1, 1, 1, 1)));
+    print::same(rt, same(&buf, b"\x07\x07\x07\x07"));
 }
 
 fn event(kind: Kind) -> Event {
@@ -57,12 +61,12 @@ fn event(kind: Kind) -> Event {
 }
 
 // An event written, found, read and written again at the same place of another buffer.
-fn event_back(kind: Kind) {
+fn event_back(rt: &HostRuntime, kind: Kind) {
     let mut buf = [0u8; 80];
     let mut again = [0u8; 80];
-    print::wrote(writing::write_event(&mut buf, 3, event(kind)));
+    print::wrote(rt, writing::write_event(&mut buf, 3, event(kind)));
     let found = logs::read(&buf, 3);
-    print::found(found);
+    print::found(rt, found);
     let Found::Record {
         kind: number,
         start: _,
@@ -72,18 +76,18 @@ fn event_back(kind: Kind) {
         return;
     };
     let e = logs::event_of(number, logs::body(&buf, 3));
-    print::wrote(writing::write_event(&mut again, 3, e));
-    print::same(same(&buf, &again));
+    print::wrote(rt, writing::write_event(&mut again, 3, e));
+    print::same(rt, same(&buf, &again));
 }
 
 // A setup in the lowest kind that can say it, which is 1 where its mode is 0.
-fn setup_back(mode: u8) {
+fn setup_back(rt: &HostRuntime, mode: u8) {
     let mut buf = [0u8; 80];
     let mut again = [0u8; 80];
     let u = in_mode(mode, setup(2, 3, 513, 86400000));
-    print::wrote(writing::write_setup(&mut buf, 1, u));
+    print::wrote(rt, writing::write_setup(&mut buf, 1, u));
     let found = logs::read(&buf, 1);
-    print::found(found);
+    print::found(rt, found);
     let Found::Record {
         kind,
         start: _,
@@ -93,34 +97,34 @@ fn setup_back(mode: u8) {
         return;
     };
     let back = logs::setup_of(kind, logs::body(&buf, 1));
-    print::same(setup::same_setup(u, back));
-    print::wrote(writing::write_setup(&mut again, 1, back));
-    print::same(same(&buf, &again));
+    print::same(rt, setup::same_setup(u, back));
+    print::wrote(rt, writing::write_setup(&mut again, 1, back));
+    print::same(rt, same(&buf, &again));
 }
 
 // One of mode 0 in kind 7: it is the same setup as in kind 1, and not the same in mode 1.
-fn mode_setup_back() {
+fn mode_setup_back(rt: &HostRuntime) {
     let mut buf = [0u8; 80];
     let u = setup(2, 3, 513, 86400000);
-    print::wrote(writing::write_mode_setup(&mut buf, 1, u));
-    print::found(logs::read(&buf, 1));
+    print::wrote(rt, writing::write_mode_setup(&mut buf, 1, u));
+    print::found(rt, logs::read(&buf, 1));
     let back = logs::setup_of(7, logs::body(&buf, 1));
-    print::same(setup::same_setup(u, back));
-    print::same(setup::same_setup(in_mode(1, u), back));
+    print::same(rt, setup::same_setup(u, back));
+    print::same(rt, setup::same_setup(in_mode(1, u), back));
 }
 
-pub(crate) fn each_kind() {
-    setup_back(0);
-    setup_back(1);
-    mode_setup_back();
-    event_back(Kind::Arrive);
-    event_back(Kind::Release);
-    event_back(Kind::Commit);
-    event_back(Kind::Finish);
+pub(crate) fn each_kind(rt: &HostRuntime) {
+    setup_back(rt, 0);
+    setup_back(rt, 1);
+    mode_setup_back(rt);
+    event_back(rt, Kind::Arrive);
+    event_back(rt, Kind::Release);
+    event_back(rt, Kind::Commit);
+    event_back(rt, Kind::Finish);
     let mut buf = [0u8; 80];
-    print::wrote(writing::write_end(&mut buf, 0, 4294967295));
-    print::found(logs::read(&buf, 0));
-    print::text(b"count");
-    print::then(logs::count_of(logs::body(&buf, 0)) as u64);
-    print::text(b"\n");
+    print::wrote(rt, writing::write_end(&mut buf, 0, 4294967295));
+    print::found(rt, logs::read(&buf, 0));
+    print::text(rt, b"count");
+    print::then(rt, logs::count_of(logs::body(&buf, 0)) as u64);
+    print::text(rt, b"\n");
 }

@@ -4,6 +4,7 @@ use crate::records::{first_of, read};
 use crate::same::same_event;
 use crate::{event, print};
 use rules::{Event, Kind};
+use std::rt::HostRuntime;
 
 fn release_of(reads: [u64; 4], writes: [u64; 4]) -> Event {
     Event {
@@ -21,122 +22,155 @@ fn reads_three() -> Event {
 }
 
 // Its record between bytes that stay: a body of 9 + 3 + 1 = 13 bytes.
-pub(crate) fn written() {
+pub(crate) fn written(rt: &HostRuntime) {
     let mut buf = [9u8; 21];
-    print::wrote(writing::write_event_by_lists(&mut buf, 2, reads_three()));
-    print::same(check::same(
-        &buf,
-        b"\x09\x09\x0d\x00\x08\x00\x04\x03\x02\x01\x01\x03\x00\x01\x00\x00\x04\xff\x07\x09\x09",
-    ));
+    print::wrote(
+        rt,
+        writing::write_event_by_lists(&mut buf, 2, reads_three()),
+    );
+    print::same(
+        rt,
+        buf.as_slice()
+            == b"\x09\x09\x0d\x00\x08\x00\x04\x03\x02\x01\x01\x03\x00\x01\x00\x00\x04\xff\x07\x09\x09".as_slice(),
+    );
 }
 
 // 28: the record has 17 bytes, and 16 are left; no byte is changed.
-pub(crate) fn no_room() {
+pub(crate) fn no_room(rt: &HostRuntime) {
     let mut buf = [9u8; 17];
-    print::wrote(writing::write_event_by_lists(&mut buf, 1, reads_three()));
-    print::same(check::same(&buf, &[9; 17]));
-    print::wrote(writing::write_event_by_lists(&mut buf, 0, reads_three()));
+    print::wrote(
+        rt,
+        writing::write_event_by_lists(&mut buf, 1, reads_three()),
+    );
+    print::same(rt, &buf == &[9; 17]);
+    print::wrote(
+        rt,
+        writing::write_event_by_lists(&mut buf, 0, reads_three()),
+    );
 }
 
 // The release by lists and by sets: both records read as the same event. A set's byte 0 has the objects 0 to 7, lowest bit first, so 0 and 4 are 17 and 7 is 128; 255
 // is 128 in byte 31.
-pub(crate) fn read_back() {
+pub(crate) fn read_back(rt: &HostRuntime) {
     let lists = b"\x0d\x00\x08\x00\x04\x03\x02\x01\x01\x03\x00\x01\x00\x00\x04\xff\x07";
     let sets = b"\x45\x00\x03\x00\x04\x03\x02\x01\x01\
         \x11\x00\x00\x00\x00\x00\x00\x00\x00\x00\x00\x00\x00\x00\x00\x00\x00\x00\x00\x00\x00\x00\x00\x00\x00\x00\x00\x00\x00\x00\x00\x80\
         \x80\x00\x00\x00\x00\x00\x00\x00\x00\x00\x00\x00\x00\x00\x00\x00\x00\x00\x00\x00\x00\x00\x00\x00\x00\x00\x00\x00\x00\x00\x00\x00";
-    read(lists, 0);
-    read(sets, 0);
-    print::same(same_event(reads_three(), logs::event_of(8, logs::body(lists, 0))));
-    print::same(same_event(reads_three(), logs::event_of(3, logs::body(sets, 0))));
+    read(rt, lists, 0);
+    read(rt, sets, 0);
+    print::same(
+        rt,
+        same_event(reads_three(), logs::event_of(8, logs::body(lists, 0))),
+    );
+    print::same(
+        rt,
+        same_event(reads_three(), logs::event_of(3, logs::body(sets, 0))),
+    );
 }
 
 // All objects read and written: a body of 9 + 256 + 256 = 521 bytes, 9 and 2 in bytes; each count is 0 and 1.
-pub(crate) fn all_objects() {
+pub(crate) fn all_objects(rt: &HostRuntime) {
     let all: u64 = 18446744073709551615;
     let e = release_of([all; 4], [all; 4]);
     let mut buf = [0u8; 525];
-    print::wrote(writing::write_event_by_lists(&mut buf, 0, e));
-    read(&buf, 0);
-    print::same(check::same(
-        first_of(&buf, 14),
-        b"\x09\x02\x08\x00\x04\x03\x02\x01\x01\x00\x01\x00\x01\x00",
-    ));
-    print::same(same_event(e, logs::event_of(8, logs::body(&buf, 0))));
+    print::wrote(rt, writing::write_event_by_lists(&mut buf, 0, e));
+    read(rt, &buf, 0);
+    print::same(
+        rt,
+        first_of(&buf, 14)
+            == b"\x09\x02\x08\x00\x04\x03\x02\x01\x01\x00\x01\x00\x01\x00".as_slice(),
+    );
+    print::same(rt, same_event(e, logs::event_of(8, logs::body(&buf, 0))));
 }
 
 // The lengths of a record by sets and by lists.
-fn length(e: Event) {
-    print::text(b"length");
-    print::then(writing::event_length(3, e) as u64);
-    print::then(writing::event_length(8, e) as u64);
-    print::text(b"\n");
+fn length(rt: &HostRuntime, e: Event) {
+    print::text(rt, b"length");
+    print::then(rt, writing::event_length(3, e) as u64);
+    print::then(rt, writing::event_length(8, e) as u64);
+    print::text(rt, b"\n");
 }
 
 // A release has 4 + 69 bytes by sets, and 4 + 9 and one for each object by lists: with none, with four, and with 256 in both. Another event has 4 + 5 either way.
-pub(crate) fn lengths() {
+pub(crate) fn lengths(rt: &HostRuntime) {
     let all: u64 = 18446744073709551615;
-    length(release_of([0; 4], [0; 4]));
-    length(reads_three());
-    length(release_of([all; 4], [all; 4]));
-    length(event(Kind::Commit, 1, 1));
+    length(rt, release_of([0; 4], [0; 4]));
+    length(rt, reads_three());
+    length(rt, release_of([all; 4], [all; 4]));
+    length(rt, event(Kind::Commit, 1, 1));
 }
 
 // 22: a body of no byte, one of 8, and lengths that are not 9 plus both counts: one above, one below, and one where neither list rises. Then 20 for a body that is cut
 // off, and 21 for kind 9. The last, with no object, is good.
-pub(crate) fn bad_lengths() {
-    read(b"\x00\x00\x08\x00", 0);
-    read(b"\x08\x00\x08\x00\x00\x00\x00\x00\x01\x00\x00\x00", 0);
+pub(crate) fn bad_lengths(rt: &HostRuntime) {
+    read(rt, b"\x00\x00\x08\x00", 0);
+    read(rt, b"\x08\x00\x08\x00\x00\x00\x00\x00\x01\x00\x00\x00", 0);
     read(
+        rt,
         b"\x0b\x00\x08\x00\x00\x00\x00\x00\x01\x01\x00\x00\x00\x04\x07",
         0,
     );
     read(
+        rt,
         b"\x0b\x00\x08\x00\x00\x00\x00\x00\x01\x01\x00\x02\x00\x04\x07",
         0,
     );
     read(
+        rt,
         b"\x0d\x00\x08\x00\x00\x00\x00\x00\x01\x02\x00\x03\x00\x04\x04\x07\x07",
         0,
     );
     read(
+        rt,
         b"\x0b\x00\x08\x00\x00\x00\x00\x00\x01\x01\x00\x01\x00\x04",
         0,
     );
     read(
+        rt,
         b"\x0b\x00\x09\x00\x00\x00\x00\x00\x01\x01\x00\x01\x00\x04\x07",
         0,
     );
-    read(b"\x09\x00\x08\x00\x00\x00\x00\x00\x01\x00\x00\x00\x00", 0);
+    read(
+        rt,
+        b"\x09\x00\x08\x00\x00\x00\x00\x00\x01\x00\x00\x00\x00",
+        0,
+    );
 }
 
 // 29: reads 4 4, reads 5 4, writes 7 7, writes 8 7, and reads 1 4 4. The last two are good: reads 4 7 and writes 4, and reads 255 and writes 0.
-pub(crate) fn bad_lists() {
+pub(crate) fn bad_lists(rt: &HostRuntime) {
     read(
+        rt,
         b"\x0b\x00\x08\x00\x00\x00\x00\x00\x01\x02\x00\x00\x00\x04\x04",
         0,
     );
     read(
+        rt,
         b"\x0b\x00\x08\x00\x00\x00\x00\x00\x01\x02\x00\x00\x00\x05\x04",
         0,
     );
     read(
+        rt,
         b"\x0b\x00\x08\x00\x00\x00\x00\x00\x01\x00\x00\x02\x00\x07\x07",
         0,
     );
     read(
+        rt,
         b"\x0b\x00\x08\x00\x00\x00\x00\x00\x01\x00\x00\x02\x00\x08\x07",
         0,
     );
     read(
+        rt,
         b"\x0d\x00\x08\x00\x00\x00\x00\x00\x01\x03\x00\x01\x00\x01\x04\x04\x07",
         0,
     );
     read(
+        rt,
         b"\x0c\x00\x08\x00\x00\x00\x00\x00\x01\x02\x00\x01\x00\x04\x07\x04",
         0,
     );
     read(
+        rt,
         b"\x0b\x00\x08\x00\x00\x00\x00\x00\x01\x01\x00\x01\x00\xff\x00",
         0,
     );

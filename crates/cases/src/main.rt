@@ -2,6 +2,8 @@
 // back, and a whole log moved to either kind of release.
 //
 // The whole session and the first item under 'Easy to get wrong' are printed as 01 has them; with each refusal it is seen that the session stays.
+#![tactic(auto)]
+
 mod back;
 mod by_lists;
 mod modes;
@@ -12,6 +14,7 @@ mod records;
 mod same;
 
 use rules::{Event, Kind, Session, Setup, Terms};
+use std::rt::HostRuntime;
 
 // A setup of four tasks, or of the first n of them, by fixed priority.
 pub(crate) fn setup_of(m: u8, n: u8, a: Terms, b: Terms, c: Terms, d: Terms) -> Setup {
@@ -63,9 +66,9 @@ pub(crate) fn release(tick: u32, task: u8, reads: u64, writes: u64) -> Event {
 }
 
 // One event: its lines, and the session after it.
-pub(crate) fn go(s: Session, e: Event) -> Session {
+pub(crate) fn go(rt: &HostRuntime, s: Session, e: Event) -> Session {
     let answer = session::step(s, e);
-    print::answer_lines(e, answer);
+    print::answer_lines(rt, e, answer);
     answer.session
 }
 
@@ -102,17 +105,17 @@ pub(crate) fn session_event(k: u8) -> Event {
 }
 
 // 'A whole session', as its lines.
-fn whole_session() {
+fn whole_session(rt: &HostRuntime) {
     let u = session_setup();
     let started = setup::setup(u);
-    print::setup_line(u);
+    print::setup_line(rt, u);
     let mut s = started.session;
     for k in 0..14 {
-        s = go(s, session_event(k));
+        s = go(rt, s, session_event(k));
     }
-    print::end_line(s.accepted, 2);
-    print::sum_line(session::sum(s, 1, 4));
-    print::sum_line(session::sum(s, 3, 4));
+    print::end_line(rt, s.accepted, 2);
+    print::sum_line(rt, session::sum(s, 1, 4));
+    print::sum_line(rt, session::sum(s, 3, 4));
 }
 
 // Four tasks whose priorities rise with their numbers, on m processors.
@@ -128,132 +131,133 @@ fn rising(m: u8) -> Setup {
 }
 
 // 'Scanning after commits only': the release that waits at tick 8 admits task 1. It did not run at tick 7: two were executing. Object 1 is 2, object 2 is 4.
-fn deferred_release_scans() {
+fn deferred_release_scans(rt: &HostRuntime) {
     let u = rising(2);
     let started = setup::setup(u);
-    print::setup_line(u);
+    print::setup_line(rt, u);
     let mut s = started.session;
-    s = go(s, event(Kind::Arrive, 0, 0));
-    s = go(s, release(1, 0, 0, 2));
-    s = go(s, event(Kind::Arrive, 2, 1));
-    s = go(s, release(3, 1, 0, 2));
-    s = go(s, event(Kind::Arrive, 4, 2));
-    s = go(s, release(5, 2, 0, 4));
-    s = go(s, event(Kind::Arrive, 6, 3));
-    s = go(s, event(Kind::Commit, 7, 0));
-    s = go(s, release(8, 3, 0, 4));
-    print::end_line(s.accepted, 0);
+    s = go(rt, s, event(Kind::Arrive, 0, 0));
+    s = go(rt, s, release(1, 0, 0, 2));
+    s = go(rt, s, event(Kind::Arrive, 2, 1));
+    s = go(rt, s, release(3, 1, 0, 2));
+    s = go(rt, s, event(Kind::Arrive, 4, 2));
+    s = go(rt, s, release(5, 2, 0, 4));
+    s = go(rt, s, event(Kind::Arrive, 6, 3));
+    s = go(rt, s, event(Kind::Commit, 7, 0));
+    s = go(rt, s, release(8, 3, 0, 4));
+    print::end_line(rt, s.accepted, 0);
 }
 
 // A retry that ran, and some that did not. Tasks 2 and 3 wait; 3 ranks above 2, and both rank above 0 and 1. Executing, all plain, and waiting tasks ranked above:
 // tick 8, for task 3: 2 + 0 + 0 < 3, a retry; for task 2: 2 + 0 + 1, none. So task 2 is admitted with 1 clash and no retry.
 // tick 9, for task 3: 2 + 1 + 0, none: task 0 is plain, though it ranks below. So task 3 is admitted with 2 clashes and 1 retry.
 // Object 1 is 2, object 2 is 4, object 3 is 8.
-fn ran_and_did_not() {
+fn ran_and_did_not(rt: &HostRuntime) {
     let u = rising(3);
     let started = setup::setup(u);
-    print::setup_line(u);
+    print::setup_line(rt, u);
     let mut s = started.session;
-    s = go(s, event(Kind::Arrive, 0, 0));
-    s = go(s, release(1, 0, 8, 2));
-    s = go(s, event(Kind::Arrive, 2, 1));
-    s = go(s, release(3, 1, 0, 4));
-    s = go(s, event(Kind::Arrive, 4, 2));
-    s = go(s, release(5, 2, 0, 8));
-    s = go(s, event(Kind::Arrive, 6, 3));
-    s = go(s, release(7, 3, 2, 4));
-    s = go(s, event(Kind::Commit, 8, 0));
-    s = go(s, event(Kind::Commit, 9, 1));
-    print::end_line(s.accepted, 0);
+    s = go(rt, s, event(Kind::Arrive, 0, 0));
+    s = go(rt, s, release(1, 0, 8, 2));
+    s = go(rt, s, event(Kind::Arrive, 2, 1));
+    s = go(rt, s, release(3, 1, 0, 4));
+    s = go(rt, s, event(Kind::Arrive, 4, 2));
+    s = go(rt, s, release(5, 2, 0, 8));
+    s = go(rt, s, event(Kind::Arrive, 6, 3));
+    s = go(rt, s, release(7, 3, 2, 4));
+    s = go(rt, s, event(Kind::Commit, 8, 0));
+    s = go(rt, s, event(Kind::Commit, 9, 1));
+    print::end_line(rt, s.accepted, 0);
 }
 
 // An event that is refused: its line, and whether the session is the same.
-fn refused(s: Session, e: Event) {
+fn refused(rt: &HostRuntime, s: Session, e: Event) {
     let answer = session::step(s, e);
-    print::answer_lines(e, answer);
+    print::answer_lines(rt, e, answer);
     let after = answer.session;
-    print::same(same::same_session(s, after));
+    print::same(rt, same::same_session(s, after));
 }
 
 // The refusals 1 to 4, and those of 4 for each event.
-fn first_refusals(fresh: Session) -> Session {
-    refused(fresh, event(Kind::Arrive, 0, 2));
-    let s = go(fresh, event(Kind::Arrive, 5, 0));
-    refused(s, event(Kind::Arrive, 4, 1));
+fn first_refusals(rt: &HostRuntime, fresh: Session) -> Session {
+    refused(rt, fresh, event(Kind::Arrive, 0, 2));
+    let s = go(rt, fresh, event(Kind::Arrive, 5, 0));
+    refused(rt, s, event(Kind::Arrive, 4, 1));
     let mut full = s;
     full.accepted = 1000000;
-    refused(full, event(Kind::Arrive, 5, 1));
-    refused(s, event(Kind::Arrive, 6, 0));
-    refused(s, event(Kind::Commit, 6, 0));
-    refused(s, release(6, 1, 0, 1));
-    refused(s, event(Kind::Finish, 6, 1));
+    refused(rt, full, event(Kind::Arrive, 5, 1));
+    refused(rt, s, event(Kind::Arrive, 6, 0));
+    refused(rt, s, event(Kind::Commit, 6, 0));
+    refused(rt, s, release(6, 1, 0, 1));
+    refused(rt, s, event(Kind::Finish, 6, 1));
     s
 }
 
 // The refusals 5 to 7. An arrival one whole period after the last is accepted.
-fn last_refusals(before: Session) {
-    let mut s = go(before, event(Kind::Finish, 7, 0));
-    refused(s, event(Kind::Arrive, 104, 0));
-    s = go(s, event(Kind::Arrive, 105, 0));
-    s = go(s, event(Kind::Arrive, 106, 1));
-    refused(s, release(107, 0, 0, 1));
-    refused(s, event(Kind::Finish, 107, 0));
-    s = go(s, release(108, 1, 0, 1));
-    s = go(s, event(Kind::Commit, 109, 1));
-    refused(s, release(110, 1, 0, 1));
+fn last_refusals(rt: &HostRuntime, before: Session) {
+    let mut s = go(rt, before, event(Kind::Finish, 7, 0));
+    refused(rt, s, event(Kind::Arrive, 104, 0));
+    s = go(rt, s, event(Kind::Arrive, 105, 0));
+    s = go(rt, s, event(Kind::Arrive, 106, 1));
+    refused(rt, s, release(107, 0, 0, 1));
+    refused(rt, s, event(Kind::Finish, 107, 0));
+    s = go(rt, s, release(108, 1, 0, 1));
+    s = go(rt, s, event(Kind::Commit, 109, 1));
+    refused(rt, s, release(110, 1, 0, 1));
 }
 
 // A setup that is refused, and an event on the session that stands in its place.
-fn bad_setup(u: Setup) {
+fn bad_setup(rt: &HostRuntime, u: Setup) {
     let started = setup::setup(u);
     let said = started.said;
     let s = started.session;
-    print::bad_line(said);
-    refused(s, event(Kind::Arrive, 0, 0));
+    print::bad_line(rt, said);
+    refused(rt, s, event(Kind::Arrive, 0, 0));
 }
 
-fn bad_setups(a: Terms, b: Terms) {
+fn bad_setups(rt: &HostRuntime, a: Terms, b: Terms) {
     let none = terms_of(0, 0, 0);
-    bad_setup(setup_of(0, 2, a, b, none, none));
-    bad_setup(setup_of(17, 2, a, b, none, none));
-    bad_setup(setup_of(1, 0, a, b, none, none));
-    bad_setup(setup_of(1, 65, a, b, none, none));
-    bad_setup(modes::in_mode(2, setup_of(1, 65, a, b, none, none)));
-    bad_setup(modes::in_mode(2, setup_of(1, 3, a, b, none, none)));
-    bad_setup(setup_of(1, 3, a, b, none, none));
-    bad_setup(setup_of(1, 2, a, terms_of(20, 86400001, 1), none, none));
-    bad_setup(setup_of(1, 2, terms_of(10, 0, 1), none, none, none));
+    bad_setup(rt, setup_of(0, 2, a, b, none, none));
+    bad_setup(rt, setup_of(17, 2, a, b, none, none));
+    bad_setup(rt, setup_of(1, 0, a, b, none, none));
+    bad_setup(rt, setup_of(1, 65, a, b, none, none));
+    bad_setup(rt, modes::in_mode(2, setup_of(1, 65, a, b, none, none)));
+    bad_setup(rt, modes::in_mode(2, setup_of(1, 3, a, b, none, none)));
+    bad_setup(rt, setup_of(1, 3, a, b, none, none));
+    bad_setup(rt, setup_of(1, 2, a, terms_of(20, 86400001, 1), none, none));
+    bad_setup(rt, setup_of(1, 2, terms_of(10, 0, 1), none, none, none));
 }
 
-fn main() {
-    whole_session();
-    deferred_release_scans();
-    ran_and_did_not();
-    modes::both_modes();
+fn main(rt: HostRuntime) {
+    let rt = &rt;
+    whole_session(rt);
+    deferred_release_scans(rt);
+    ran_and_did_not(rt);
+    modes::both_modes(rt);
     let none = terms_of(0, 0, 0);
     let a = terms_of(10, 100, 1);
     let b = terms_of(20, 50, 1);
     let started = setup::setup(setup_of(1, 2, a, b, none, none));
     let fresh = started.session;
-    let s = first_refusals(fresh);
-    last_refusals(s);
-    bad_setups(a, b);
-    near::both_ends();
-    near::three_tasks();
-    records::records();
-    records::mode_records();
-    records::logs();
-    records::full_log();
-    back::no_room();
-    back::bad_setups();
-    back::each_kind();
-    by_lists::written();
-    by_lists::no_room();
-    by_lists::read_back();
-    by_lists::all_objects();
-    by_lists::lengths();
-    by_lists::bad_lengths();
-    by_lists::bad_lists();
-    moved::one_kind_only();
-    moved::session_moved();
+    let s = first_refusals(rt, fresh);
+    last_refusals(rt, s);
+    bad_setups(rt, a, b);
+    near::both_ends(rt);
+    near::three_tasks(rt);
+    records::records(rt);
+    records::mode_records(rt);
+    records::logs(rt);
+    records::full_log(rt);
+    back::no_room(rt);
+    back::bad_setups(rt);
+    back::each_kind(rt);
+    by_lists::written(rt);
+    by_lists::no_room(rt);
+    by_lists::read_back(rt);
+    by_lists::all_objects(rt);
+    by_lists::lengths(rt);
+    by_lists::bad_lengths(rt);
+    by_lists::bad_lists(rt);
+    moved::one_kind_only(rt);
+    moved::session_moved(rt);
 }

@@ -4,6 +4,7 @@
 use crate::records::{first_of, whole};
 use crate::{print, release, session_event, session_setup, setup_of, terms_of};
 use rules::Event;
+use std::rt::HostRuntime;
 use writing::Wrote;
 
 // The place after what was written; the end of the buffer where there was no room.
@@ -26,22 +27,22 @@ fn put(buf: &mut [u8], at: usize, by_lists: bool, e: Event) -> usize {
 
 // A log of one task with two releases, each by lists or by sets: its number, and how many events were read. It fills the buffer, with 14 bytes of setup, the releases and
 // 8 of the end.
-fn two_releases(buf: &mut [u8], first: bool, second: bool) {
+fn two_releases(rt: &HostRuntime, buf: &mut [u8], first: bool, second: bool) {
     let none = terms_of(0, 0, 0);
     let u = setup_of(1, 1, terms_of(1, 1, 2), none, none, none);
     writing::write_setup(buf, 0, u);
     let middle = put(buf, 14, first, release(3, 0, 1, 2));
     let end = put(buf, middle, second, release(4, 0, 1, 2));
     writing::write_end(buf, end, 2);
-    whole(buf);
+    whole(rt, buf);
 }
 
 // 24 for a release by lists behind one by sets, and by sets behind one by lists; two of one kind are good. Each reads object 0 and writes 1: 73 bytes by sets, 15 by lists.
-pub(crate) fn one_kind_only() {
-    two_releases(&mut [0; 110], false, true);
-    two_releases(&mut [0; 110], true, false);
-    two_releases(&mut [0; 168], false, false);
-    two_releases(&mut [0; 52], true, true);
+pub(crate) fn one_kind_only(rt: &HostRuntime) {
+    two_releases(rt, &mut [0; 110], false, true);
+    two_releases(rt, &mut [0; 110], true, false);
+    two_releases(rt, &mut [0; 168], false, false);
+    two_releases(rt, &mut [0; 52], true, true);
 }
 
 // The session as a log, by sets.
@@ -55,49 +56,49 @@ fn session_log(buf: &mut [u8]) {
 }
 
 // There and back gives the same bytes.
-fn there_and_back(sets: &[u8], lists: &[u8]) {
+fn there_and_back(rt: &HostRuntime, sets: &[u8], lists: &[u8]) {
     let mut there = [9u8; 180];
     let mut back = [9u8; 356];
-    print::moved(moving::convert(sets, 8, &mut there));
-    print::same(check::same(&there, lists));
-    print::moved(moving::convert(&there, 3, &mut back));
-    print::same(check::same(&back, sets));
+    print::moved(rt, moving::convert(sets, 8, &mut there));
+    print::same(rt, there.as_slice() == lists);
+    print::moved(rt, moving::convert(&there, 3, &mut back));
+    print::same(rt, back.as_slice() == sets);
 }
 
 // A log already in the wanted kind comes out as it is, and the bytes behind it stay.
-fn as_it_is(sets: &[u8], lists: &[u8]) {
+fn as_it_is(rt: &HostRuntime, sets: &[u8], lists: &[u8]) {
     let mut buf = [9u8; 356];
     let mut longer = [9u8; 182];
-    print::moved(moving::convert(sets, 3, &mut buf));
-    print::same(check::same(&buf, sets));
-    print::moved(moving::convert(lists, 8, &mut longer));
-    print::same(check::same(first_of(&longer, 180), lists));
-    print::same(longer[180] == 9 && longer[181] == 9);
+    print::moved(rt, moving::convert(sets, 3, &mut buf));
+    print::same(rt, buf.as_slice() == sets);
+    print::moved(rt, moving::convert(lists, 8, &mut longer));
+    print::same(rt, first_of(&longer, 180) == lists);
+    print::same(rt, longer[180] == 9 && longer[181] == 9);
 }
 
 // 28 with one byte too few, and before it 21 for a wanted kind that is no release; no byte is changed.
-fn refused(sets: &[u8], lists: &[u8]) {
+fn refused(rt: &HostRuntime, sets: &[u8], lists: &[u8]) {
     let mut short = [9u8; 179];
     let mut longer = [9u8; 355];
-    print::moved(moving::convert(sets, 8, &mut short));
-    print::moved(moving::convert(sets, 7, &mut short));
-    print::same(check::same(&short, &[9; 179]));
-    print::moved(moving::convert(lists, 3, &mut longer));
-    print::moved(moving::convert(lists, 7, &mut longer));
-    print::same(check::same(&longer, &[9; 355]));
+    print::moved(rt, moving::convert(sets, 8, &mut short));
+    print::moved(rt, moving::convert(sets, 7, &mut short));
+    print::same(rt, &short == &[9; 179]);
+    print::moved(rt, moving::convert(lists, 3, &mut longer));
+    print::moved(rt, moving::convert(lists, 7, &mut longer));
+    print::same(rt, &longer == &[9; 355]);
 }
 
 // A log that reads badly gives its own number before both: 20 where its end is cut off, 27 where it has none or is empty; no byte is changed.
-fn bad_log(sets: &[u8]) {
+fn bad_log(rt: &HostRuntime, sets: &[u8]) {
     let mut buf = [9u8; 4];
-    print::moved(moving::convert(first_of(sets, 355), 7, &mut buf));
-    print::moved(moving::convert(first_of(sets, 348), 8, &mut buf));
-    print::moved(moving::convert(b"", 7, &mut buf));
-    print::same(check::same(&buf, b"\x09\x09\x09\x09"));
+    print::moved(rt, moving::convert(first_of(sets, 355), 7, &mut buf));
+    print::moved(rt, moving::convert(first_of(sets, 348), 8, &mut buf));
+    print::moved(rt, moving::convert(b"", 7, &mut buf));
+    print::same(rt, &buf == b"\x09\x09\x09\x09");
 }
 
 // The session by lists, a record to a line, as the second program's `convert 8` gives it.
-pub(crate) fn session_moved() {
+pub(crate) fn session_moved(rt: &HostRuntime) {
     let lists =
         b"\x1a\x00\x01\x00\x02\x03\x0a\x00\x64\x00\x00\x00\x02\x00\x1e\x00\x32\x00\x00\x00\x01\x00\x14\x00\x50\x00\x00\x00\x01\x00\
         \x05\x00\x02\x00\x00\x00\x00\x00\x00\
@@ -117,8 +118,8 @@ pub(crate) fn session_moved() {
         \x04\x00\x06\x00\x0e\x00\x00\x00";
     let mut sets = [0u8; 356];
     session_log(&mut sets);
-    there_and_back(&sets, lists);
-    as_it_is(&sets, lists);
-    refused(&sets, lists);
-    bad_log(&sets);
+    there_and_back(rt, &sets, lists);
+    as_it_is(rt, &sets, lists);
+    refused(rt, &sets, lists);
+    bad_log(rt, &sets);
 }

@@ -3,10 +3,11 @@
 // never runs: with one that executes they are more than m, and the retry count is 0.
 use crate::{event, go, print, release, setup_of, terms_of};
 use rules::{Event, Kind, Session};
+use std::rt::HostRuntime;
 
 // Arrivals on both ends: a wait of 10 ticks beside a task of period 10 with one transaction a job. The clash count is 3 and so is the sum, 1 × (⌊10/10⌋ + 2); the
 // paper's form ⌈10/10⌉ + 1 is 2. Object 5 is 32.
-pub(crate) fn both_ends() {
+pub(crate) fn both_ends(rt: &HostRuntime) {
     let idle = terms_of(20, 1000, 0);
     let u = setup_of(
         2,
@@ -17,27 +18,27 @@ pub(crate) fn both_ends() {
         idle,
     );
     let started = setup::setup(u);
-    print::setup_line(u);
+    print::setup_line(rt, u);
     let mut s = started.session;
-    s = go(s, event(Kind::Arrive, 0, 1));
-    s = go(s, release(0, 1, 0, 32));
-    s = go(s, event(Kind::Arrive, 10, 0));
-    s = go(s, release(10, 0, 0, 32));
-    s = go(s, event(Kind::Arrive, 10, 2));
-    s = go(s, event(Kind::Arrive, 10, 3));
-    s = go(s, event(Kind::Commit, 10, 1));
-    s = go(s, event(Kind::Finish, 10, 1));
-    s = go(s, event(Kind::Arrive, 10, 1));
-    s = go(s, release(10, 1, 0, 32));
-    s = go(s, event(Kind::Commit, 10, 1));
-    s = go(s, event(Kind::Finish, 10, 1));
-    s = go(s, event(Kind::Arrive, 20, 1));
-    s = go(s, release(20, 1, 0, 32));
-    s = go(s, event(Kind::Commit, 20, 1));
-    s = go(s, event(Kind::Finish, 20, 1));
-    s = go(s, event(Kind::Finish, 20, 2));
-    print::end_line(s.accepted, 0);
-    print::sum_line(session::sum(s, 0, 10));
+    s = go(rt, s, event(Kind::Arrive, 0, 1));
+    s = go(rt, s, release(0, 1, 0, 32));
+    s = go(rt, s, event(Kind::Arrive, 10, 0));
+    s = go(rt, s, release(10, 0, 0, 32));
+    s = go(rt, s, event(Kind::Arrive, 10, 2));
+    s = go(rt, s, event(Kind::Arrive, 10, 3));
+    s = go(rt, s, event(Kind::Commit, 10, 1));
+    s = go(rt, s, event(Kind::Finish, 10, 1));
+    s = go(rt, s, event(Kind::Arrive, 10, 1));
+    s = go(rt, s, release(10, 1, 0, 32));
+    s = go(rt, s, event(Kind::Commit, 10, 1));
+    s = go(rt, s, event(Kind::Finish, 10, 1));
+    s = go(rt, s, event(Kind::Arrive, 20, 1));
+    s = go(rt, s, release(20, 1, 0, 32));
+    s = go(rt, s, event(Kind::Commit, 20, 1));
+    s = go(rt, s, event(Kind::Finish, 20, 1));
+    s = go(rt, s, event(Kind::Finish, 20, 2));
+    print::end_line(rt, s.accepted, 0);
+    print::sum_line(rt, session::sum(s, 0, 10));
 }
 
 // One event, with no line.
@@ -69,13 +70,13 @@ fn job(s: Session, tick: u32, task: u8, times: u8) -> Session {
 }
 
 // Task 0 waits from tick 20, for task 1's transaction; the jobs that were there end on the same tick.
-fn begin_wait(fresh: Session) -> Session {
+fn begin_wait(rt: &HostRuntime, fresh: Session) -> Session {
     let mut s = quiet(fresh, event(Kind::Arrive, 0, 1));
     s = quiet(s, event(Kind::Arrive, 0, 2));
     s = quiet(s, event(Kind::Arrive, 0, 3));
     s = quiet(s, release(0, 1, 0, 32));
-    s = go(s, event(Kind::Arrive, 20, 0));
-    s = go(s, release(20, 0, 0, 32));
+    s = go(rt, s, event(Kind::Arrive, 20, 0));
+    s = go(rt, s, release(20, 0, 0, 32));
     s = quiet(s, event(Kind::Arrive, 20, 4));
     s = quiet(s, event(Kind::Arrive, 20, 5));
     s = quiet(s, event(Kind::Arrive, 20, 6));
@@ -106,7 +107,7 @@ fn jobs_of_the_wait(waiting: Session) -> Session {
 // Three tasks at once: periods 5, 7 and 12, with 2, 3 and 1 transactions a job, over a wait of 25 ticks. The jobs that were there commit 2 + 3 + 1; those that
 // arrive in the wait 6 × 2 + 4 × 3 + 3 × 1. The clash count is 33 and so is the sum, 2 × (5 + 2) + 3 × (3 + 2) + 1 × (2 + 2); the paper's form is 2 × (5 + 1) + 3 ×
 // (4 + 1) + 1 × (3 + 1) = 31.
-pub(crate) fn three_tasks() {
+pub(crate) fn three_tasks(rt: &HostRuntime) {
     let mut u = setup_of(
         4,
         8,
@@ -120,9 +121,9 @@ pub(crate) fn three_tasks() {
     u.terms[6] = terms_of(30, 1000, 0);
     u.terms[7] = terms_of(20, 1000, 0);
     let started = setup::setup(u);
-    print::setup_line(u);
+    print::setup_line(rt, u);
     let fresh = started.session;
-    let mut s = jobs_of_the_wait(begin_wait(fresh));
-    s = go(s, event(Kind::Finish, 45, 4));
-    print::sum_line(session::sum(s, 0, 25));
+    let mut s = jobs_of_the_wait(begin_wait(rt, fresh));
+    s = go(rt, s, event(Kind::Finish, 45, 4));
+    print::sum_line(rt, session::sum(s, 0, 25));
 }

@@ -7,9 +7,11 @@
 // executes and one is plain. On three processors these two are fewer than m, both times, and all else goes as before; so there its retries grow by 2.
 //
 // A line says which total, its value after the event, the number answered, and whether tally and row are the same as before.
-use libc::STDOUT_FILENO;
+#![tactic(auto)]
+
 use report::{Figures, OpenSession, Tally};
 use rules::{Event, Kind, Setup, Terms};
+use std::rt::HostRuntime;
 
 // 01's setup, on m processors: priorities 10, 30, 20, periods 100, 50, 80, transactions 2, 1, 1.
 fn session_setup(m: u8) -> Setup {
@@ -187,7 +189,15 @@ fn up_to(t: Tally, m: u8, tick: u32, row: &mut [u32]) -> Place {
 }
 
 // Books the event at a tick of the session on m processors into a tally in which one total of a task has a value.
-fn try_total(name: &[u8], which: Total, task: usize, value: u32, m: u8, tick: u32) {
+fn try_total(
+    rt: &HostRuntime,
+    name: &str,
+    which: Total,
+    task: usize,
+    value: u32,
+    m: u8,
+    tick: u32,
+) {
     let mut t = tally::empty();
     if task < 64 {
         let f = figures_with(which, value);
@@ -208,28 +218,26 @@ fn try_total(name: &[u8], which: Total, task: usize, value: u32, m: u8, tick: u3
     }
     let same = same_tally(before, now);
     let same_places = same_row(&row_before, &row);
-    io::write_all(STDOUT_FILENO, name);
-    io::print_decimal(STDOUT_FILENO, total as u64);
-    io::write_all(STDOUT_FILENO, b" ");
-    io::print_decimal(STDOUT_FILENO, booked.number as u64);
-    if same && same_places {
-        io::write_all(STDOUT_FILENO, b" same\n");
+    let number = booked.number;
+    let kept = if same && same_places {
+        "same"
     } else {
-        io::write_all(STDOUT_FILENO, b" changed\n");
-    }
+        "changed"
+    };
+    let _ = println!(rt; "{name} {total} {number} {kept}");
 }
 
-fn main() {
-    try_total(b"committed ", Total::Committed, 2, 4294967294, 2, 7);
-    try_total(b"committed ", Total::Committed, 2, 4294967295, 2, 7);
-    try_total(b"waited ", Total::Waited, 1, 4294967294, 2, 8);
-    try_total(b"waited ", Total::Waited, 1, 4294967295, 2, 8);
-    try_total(b"clashes ", Total::Clashes, 1, 4294967293, 2, 7);
-    try_total(b"clashes ", Total::Clashes, 1, 4294967294, 2, 7);
-    try_total(b"retries ", Total::Retries, 1, 4294967293, 3, 7);
-    try_total(b"retries ", Total::Retries, 1, 4294967294, 3, 7);
-    try_total(b"ticks ", Total::Ticks, 1, 4294967291, 2, 7);
-    try_total(b"ticks ", Total::Ticks, 1, 4294967292, 2, 7);
-    try_total(b"waits ", Total::Waits, 1, 4294967294, 2, 7);
-    try_total(b"waits ", Total::Waits, 1, 4294967295, 2, 7);
+fn main(rt: HostRuntime) {
+    try_total(&rt, "committed", Total::Committed, 2, 4294967294, 2, 7);
+    try_total(&rt, "committed", Total::Committed, 2, 4294967295, 2, 7);
+    try_total(&rt, "waited", Total::Waited, 1, 4294967294, 2, 8);
+    try_total(&rt, "waited", Total::Waited, 1, 4294967295, 2, 8);
+    try_total(&rt, "clashes", Total::Clashes, 1, 4294967293, 2, 7);
+    try_total(&rt, "clashes", Total::Clashes, 1, 4294967294, 2, 7);
+    try_total(&rt, "retries", Total::Retries, 1, 4294967293, 3, 7);
+    try_total(&rt, "retries", Total::Retries, 1, 4294967294, 3, 7);
+    try_total(&rt, "ticks", Total::Ticks, 1, 4294967291, 2, 7);
+    try_total(&rt, "ticks", Total::Ticks, 1, 4294967292, 2, 7);
+    try_total(&rt, "waits", Total::Waits, 1, 4294967294, 2, 7);
+    try_total(&rt, "waits", Total::Waits, 1, 4294967295, 2, 7);
 }

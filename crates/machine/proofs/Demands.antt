@@ -14,7 +14,6 @@ use Rattle.rules.specs.Ranking.{by_rank}
 use Rattle.rules.specs.Setup.{fresh}
 use Rattle.rules.specs.Scan.{no_admission}
 use Rattle.rules.specs.Events.{step}
-use Rattle.rules.specs.Lines.{admissions}
 use Rattle.rules.specs.History.{Call, tasks_of, heard}
 use Rattle.rules.specs.Demand3.{Run, begun, called}
 use Rattle.rules.proofs.Laws.Listed.{tasks_more}

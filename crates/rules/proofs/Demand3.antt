@@ -9,7 +9,6 @@ use native.Mathlib.Omega.{arith}
 use lib.Dec.{eqb, ltb}
 use lib.ListN.{get_or}
 use borrow.Author.Tests.{eq-eqb, lt-ltb, not-true}
-use Rattle.objects.specs.Below.{sum}
 use Rattle.objects.specs.Objects.{Sets, clash}
 use Rattle.objects.proofs.Laws.Below.{not_both, and_both, or_false_left, or_false_right, sum_mono}
 use Rattle.objects.proofs.Laws.Clash.{clash_plain}

@@ -1,7 +1,7 @@
 -- Where a wait that ended has ended: by induction over the calls. A call that admits the task sets both ticks, and any other call of one that does not wait leaves both.
 use Prim.Native.Nat.{ℕ, ◌<◌}
 use mathlib.Core.Path.{◌≡◌, refl, sym, ap, ◌∙◌}
-use mathlib.Core.Logic.{inl, inr, ◌≢◌}
+use mathlib.Core.Logic.{inl, inr}
 use mathlib.Core.List.{List, ◌∷◌}
 use mathlib.Core.Bool.{Bool, true, false, cond, ◌&&◌, and-false, true≢false}
 use native.Mathlib.Nat.{lt_of_lt_of_le, le_of_eq}

@@ -1,7 +1,6 @@
 // The values that the rules speak of. What happens to them is in specs/; there is no function here.
 #![tactic(auto)]
 
-
 // What a setup says of one task. Priority: larger is higher. Period: in ticks. Transactions: how many one job may release.
 #[derive(Clone, Copy)]
 pub struct Terms {

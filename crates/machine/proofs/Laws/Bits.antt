@@ -1,5 +1,5 @@
 -- What a word's bits are, after one is set or taken out, and which are set in one task's word.
-use Prim.Native.Nat.{ℕ, ◌-◌, ◌<◌}
+use Prim.Native.Nat.{ℕ, ◌<◌}
 use mathlib.Core.Path.{◌≡◌}
 use mathlib.Core.Bool.{not, ◌&&◌, ◌||◌}
 use lib.Dec.{eqb}

@@ -1,6 +1,6 @@
 -- Who ranks above whom, after it moved for task i: between i and every other task it is by the ranks that stand in the words, between any other two it is as it was, and no
 -- other place is touched.
-use Prim.Native.Nat.{ℕ, zero, suc, ◌+◌, ◌*◌, ◌≤◌, ◌<◌, min}
+use Prim.Native.Nat.{ℕ, zero, suc, ◌+◌, ◌≤◌, ◌<◌, min}
 use mathlib.Core.Path.{◌≡◌, refl, ap, ap₂, ◌∙◌}
 use mathlib.Core.Logic.{◌⊎◌, inl, inr, ◌≢◌}
 use mathlib.Core.List.{List}
@@ -12,7 +12,6 @@ use borrow.Author.Tests.{eq-eqb, ne_eqb, lt-ltb, le-ltb}
 use Rattle.objects.specs.Objects.{bit}
 use Rattle.objects.proofs.Laws.Below.{below_suc, below_or_from}
 use Rattle.objects.proofs.Laws.Bits.{bit_word}
-use Rattle.machine.specs.Bits.{with_bit, without_bit}
 use Rattle.machine.specs.Places.{n_of, above_of, rank_place}
 use Rattle.machine.specs.Ranks.{rank_in, ranks_above, above_word, bit_moved, bits_moved, ranks_moved}
 use Rattle.machine.proofs.Laws.Bits.{with_bit_lem, without_bit_lem}

@@ -11,7 +11,6 @@ use lib.Dec.{eqb}
 use lib.ListN.{length, take, get_or, set, length-set, length-replicate}
 use lib.Seq.{take-suc-set, get_or-set_same, get_or-set_other}
 use borrow.Author.Tests.{eq-eqb, eqb-true, eqb-false}
-use Rattle.objects.specs.Below.{count}
 use Rattle.objects.proofs.Laws.Below.{below_suc, or_right}
 use Rattle.rules.specs.declared.State.TheVariants.{Executing}
 use Rattle.rules.specs.declared.Task.{Task}

@@ -1,0 +1,9 @@
+-- The loop of `write_out`: what was taken so far is within the bytes, and each turn takes some more.
+use Rattle.std.proofs.Common.{length, ◌-◌, ◌≤◌}
+use Rattle.outside.proofs.out.write_out.Given as goal
+
+abbrev pub invariant-loop-done : goal.invariant-loop-done
+invariant-loop-done g l = l.done ≤ length l.bytes
+
+abbrev pub decreases-loop-done : goal.decreases-loop-done
+decreases-loop-done g l = length l.bytes - l.done

@@ -3,7 +3,6 @@
 use Prim.Native.Nat.{ℕ, ◌+◌, min}
 use mathlib.Core.Path.{◌≡◌, ◌∙◌}
 use mathlib.Core.Bool.{Bool}
-use native.Mathlib.Nat.{mod-lt}
 use native.Mathlib.Omega.{arith}
 use Rattle.machine.specs.Places.{row_size, row_held, row_task}
 use Rattle.machine.specs.Asked.{clash_in}

@@ -3,7 +3,6 @@ use Prim.Native.Nat.{ℕ, ◌%◌, ◌<◌}
 use mathlib.Core.Path.{◌≡◌, sym, ◌∙◌}
 use mathlib.Core.List.{List}
 use mathlib.Core.Bool.{Bool, cond, not}
-use native.Mathlib.Omega.{arith}
 use lib.Bits.{bit_or}
 use Rattle.objects.specs.Objects.{bit}
 use Rattle.machine.specs.Places.{plain_of, waiting_of, executing_of, arrival_at, period_at}

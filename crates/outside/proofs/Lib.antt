@@ -1,4 +1,3 @@
 -- What the proofs of the functions share.
 pub mod Beginnings
-pub mod Errors
 pub mod Digits

@@ -1,5 +1,5 @@
 -- What a word of a call says.
-use Rattle.std.specs.Prelude.{ℕ, ◌+◌, ◌*◌, ◌-◌, ◌≡◌, List, [], ◌∷◌, Bool, true, false, cond, ◌&&◌, eqb, leb}
+use Rattle.std.specs.Prelude.{ℕ, ◌+◌, ◌*◌, ◌-◌, List, [], ◌∷◌, Bool, true, cond, ◌&&◌, eqb, leb}
 use Rattle.outside.specs.declared.Word.{Word}
 use Rattle.outside.specs.declared.Word.TheVariants.{Empty, Input, Flag, Name}
 use Rattle.outside.specs.declared.Number.{Number}

@@ -1,5 +1,5 @@
 -- Calls of the system: which are worth another try, and what is written out.
-use Rattle.std.specs.Prelude.{ℕ, ◌≤◌, min, ◌≡◌, List, Bool, true, false, ◌||◌, eqb, ℤ, pos, negsuc, length, set}
+use Rattle.std.specs.Prelude.{ℕ, ◌≤◌, min, ◌≡◌, List, Bool, false, ◌||◌, eqb, ℤ, pos, negsuc, length, set}
 use Rattle.outside.specs.declared.Log.{Log}
 use Rattle.outside.specs.declared.Sent.{Sent}
 use Rattle.outside.specs.declared.source.Source.{Source}

@@ -3,18 +3,18 @@
 // Read in this order: words (what a word says), tries (calls that are worth another one), out (bytes written out, what is said on standard error, the verdict), source (where a
 // log's bytes come from), calls (how a program was called, and the log that a word names).
 #![tactic(auto)]
+
 mod calls;
 mod out;
 mod source;
 mod tries;
 mod words;
 
-use std::io::Error;
-use std::rt::HostRuntime;
-
 pub use calls::{called, few_enough, log_of, word_at};
 pub use out::{cannot, say, tell, write_out, wrong};
 pub use source::Source;
+use std::io::Error;
+use std::rt::HostRuntime;
 pub use tries::{again, code_of};
 pub use words::{number_of, word_of};
 

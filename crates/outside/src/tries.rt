@@ -9,6 +9,7 @@ use std::time::Duration;
 
 // A call that was interrupted, and one that would have had to wait, by the system's number.
 const EINTR: i32 = 4;
+
 const EAGAIN: i32 = 11;
 
 // Lets a millisecond pass, or less where a signal comes.

@@ -2,7 +2,7 @@
 use Rattle.std.proofs.Common.{◌≡◌, ◌∙◌, ap, length, arith, add-one}
 use lib.Seq.{paste}
 use Rattle.input.specs.Part.{part}
-use Rattle.input.proofs.Moving.{part_length, moved, all_moved}
+use Rattle.input.proofs.Moving.{moved, all_moved}
 use Rattle.input.proofs.to_front.Goals as goal
 
 pub loop-i-preserved : goal.loop-i-preserved

@@ -1,5 +1,5 @@
 -- The loop of `to_front`: so many bytes of the part stand at the front.
-use Prim.Native.Nat.{◌-◌, ◌≤◌}
+use Prim.Native.Nat.{◌≤◌}
 use mathlib.Core.Path.{◌≡◌}
 use lib.Seq.{paste}
 use Rattle.input.specs.Part.{part}

@@ -1,5 +1,5 @@
 -- The numbers that every event tries first, what is known where none of them is given, and what an event comes to by its number.
-use Prim.Native.Nat.{ℕ, zero, suc, ◌+◌, ◌-◌, ◌%◌, ◌≤◌, ◌<◌}
+use Prim.Native.Nat.{ℕ, zero, suc, ◌%◌, ◌≤◌, ◌<◌}
 use mathlib.Core.Path.{◌≡◌, refl, sym, ◌∙◌}
 use mathlib.Core.Logic.{◌≢◌}
 use mathlib.Core.List.{List}
@@ -7,9 +7,9 @@ use mathlib.Core.Bool.{Bool, true, false, cond, not, ◌&&◌}
 use native.Mathlib.Omega.{arith}
 use lib.Dec.{eqb, leb, ltb}
 use lib.Bits.{bit_or}
-use borrow.Author.Tests.{ltb-true, ltb-false, leb-false, lt-ltb, ne_eqb}
+use borrow.Author.Tests.{ltb-true, ltb-false, leb-false, ne_eqb}
 use Rattle.objects.specs.Objects.{bit}
-use Rattle.objects.proofs.Laws.Below.{and_left, and_right, bool_ext}
+use Rattle.objects.proofs.Laws.Below.{and_left, and_right}
 use Rattle.objects.proofs.Laws.Bits.{bit_or_lem}
 use Rattle.rules.specs.Tasks.{allowed}
 use Rattle.rules.proofs.Laws.Numbers.{must, must_not, allowed_bounds}
@@ -173,12 +173,3 @@ module _ (w : List ℕ) (tick i : ℕ) where
   -- there is a transaction left
   pub release_left : release_number_in w tick i ≡ 0 → releases_at w i < transactions_at w i
   release_left e = ltb-true (releases_at w i) (transactions_at w i) (release_parts e).1
-
--- ---- less than one period after the last arrival
-
--- asked by what has passed since
-pub early_since : (tick last period : ℕ) → last ≤ tick → ltb (tick - last) period ≡ ltb tick (last + period)
-early_since tick last period h =
-    bool_ext (ltb (tick - last) period) (ltb tick (last + period))
-    (λ e. lt-ltb tick (last + period) (omega (arith, ltb-true (tick - last) period e)))
-    (λ e. lt-ltb (tick - last) period (omega (arith, ltb-true tick (last + period) e)))

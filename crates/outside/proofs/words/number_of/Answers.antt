@@ -1,5 +1,4 @@
--- `outside::words::number_of` meets its contract. The loop's invariant: the word says what it says from the place on, after the value so far. The measure is how many bytes are left. Assumes nothing.
-use Prim.Native.Nat.{◌-◌}
+-- `outside::words::number_of` meets its contract. The loop's invariant: the word says what it says from the place on, after the value so far.
 use mathlib.Core.Path.{◌∙◌}
 use native.Mathlib.Omega.{arith}
 use Rattle.outside.proofs.Digits.{empty, from_start, below_digits, above_digits, digit_more, digit_too_large, at_end}

@@ -1,5 +1,5 @@
--- `outside::words::number_of` meets its contract. The loop's invariant: the word says what it says from the place on, after the value so far. The measure is how many bytes are left. Assumes nothing.
-use Prim.Native.Nat.{◌≤◌, ◌-◌}
+-- `outside::words::number_of` meets its contract. The loop's invariant: the word says what it says from the place on, after the value so far.
+use Prim.Native.Nat.{◌≤◌}
 use mathlib.Core.Path.{◌≡◌}
 use lib.ListN.{length, drop}
 use Rattle.outside.specs.Words.{number_from, number_of}

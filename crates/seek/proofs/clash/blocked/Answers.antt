@@ -52,9 +52,6 @@ loop-g-init c =
     let a = (start head).args in
     (zero-le, head.search.invariant.1, any_empty (group_clash a.words.now (a.task % 64) (c.lowest_of-other.result % 64)))
 
-pub group_of-x-requires : goal.group_of-x-requires
-group_of-x-requires c = (omega arith, omega arith, c.loop-g-test.true)
-
 -- the answer for the group that is looked at
 asked_of : (c : After-group_contested)
     → let loop = c.before.before.before in

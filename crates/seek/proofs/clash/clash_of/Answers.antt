@@ -12,9 +12,6 @@ loop-g-init c =
     let a = c.args in
     (zero-le, any_empty (group_clash a.words.now (a.task % 64) (a.other % 64)))
 
-pub group_of-x-requires : goal.group_of-x-requires
-group_of-x-requires c = (omega arith, omega arith, c.loop-g-test.true)
-
 -- the answer for the group that is looked at
 asked_of : (c : After-group_contested)
     → let loop = c.before.before.before in

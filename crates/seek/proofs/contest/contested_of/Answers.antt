@@ -3,7 +3,6 @@
 use Prim.Native.Nat.{◌%◌}
 use mathlib.Core.Path.{◌∙◌}
 use native.Mathlib.Omega.{arith}
-use borrow.Author.Rules.{rules}
 use Rattle.machine.specs.Places.{executing_of}
 use Rattle.seek.proofs.Laws.Ones.{walk_start, Turn, turn_walk, turn_less}
 use Rattle.seek.proofs.contest.contested_of.Invariants.{contested_start, contested_turn, contested_end, own_none, nobody, told_start, told_turn, tasks_with, tasks_without, told_end}
@@ -25,9 +24,6 @@ loop-rest-init c =
       contested_start a.words.now a.i a.g first.result first.ensures,
       told_start a.words.now a.i a.g first.result first.ensures,
     )
-
-pub group_of-x-requires : goal.group_of-x-requires
-group_of-x-requires c = (search rules, omega arith, search rules)
 
 pub loop-rest-smaller : goal.loop-rest-smaller
 loop-rest-smaller c =

@@ -22,9 +22,6 @@ loop-g-init c =
     let i = a.task % 64 in
     (passed_none (contested_groups w i) (groups_fit w i), told_none w i)
 
-pub contested_of-group-requires : goal.contested_of-group-requires
-contested_of-group-requires c = (omega arith, c.loop-g-test.true)
-
 pub overflow_add-object : goal.overflow_add-object
 overflow_add-object c = omega (arith, c.lowest_of.ensures, lowest_le c.contested_of-group.result.objects)
 

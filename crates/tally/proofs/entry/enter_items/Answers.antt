@@ -34,11 +34,10 @@ returns-then-not-n c =
 pub returns-then-not-x : goal.returns-then-not-x
 returns-then-not-x c =
     let made = c.enter_commit-x in
-    let x = c.before.before.before.before in
-    let a = x.args in
+    let a = c.args in
     let ys = listed_waits a.list.now a.n.tick (min a.n.admitted 16) in
     let xs = commit (a.n.task % 64) a.n.waited ∷ [] in record {
-      fits = sym (ap (enterable a.figures) (one_commit a.n a.list.now (not-false a.n.commits x.if-not-n.false)) ∙ enterable_both a.figures xs ys
+      fits = sym (ap (enterable a.figures) (one_commit a.n a.list.now (not-false a.n.commits c.if-not-n.false)) ∙ enterable_both a.figures xs ys
           ∙ ap (λ (b : Bool). b && enterable (entered a.figures xs) ys) (sym made.ensures.fits ∙ not-true made.result.fits c.if-not-x.true));
       figures = λ q. absurd (false≢true q);
     }
@@ -47,11 +46,10 @@ pub returns : goal.returns
 returns c =
     let w = c.enter_waits-2 in
     let made = c.enter_commit-x in
-    let x = c.before.before.before.before.before in
-    let a = x.args in
+    let a = c.args in
     let ys = listed_waits a.list.now a.n.tick (min a.n.admitted 16) in
     let xs = commit (a.n.task % 64) a.n.waited ∷ [] in
-    let both = one_commit a.n a.list.now (not-false a.n.commits x.if-not-n.false) in
+    let both = one_commit a.n a.list.now (not-false a.n.commits c.if-not-n.false) in
     let fit : made.result.fits ≡ true = not-false made.result.fits c.if-not-x.false in
     let between : made.result.figures ≡ entered a.figures xs = made.ensures.figures fit in record {
       fits = sym (ap (enterable a.figures) both ∙ enterable_both a.figures xs ys

@@ -125,16 +125,47 @@ fn too_long(rt: &HostRuntime, program: &[u8], place: usize) -> u8
     1
 }
 
-// Opens a file by its name, for reading. A name is text.
-fn open_read(rt: &HostRuntime, name: &[u8]) -> Result<File> {
-    match std::str::from_utf8(name) {
-        Ok(path) => File::open(rt, path),
-        Err(_) => Err(Error::new(ErrorKind::InvalidInput, "a name that is no text")),
+// What the environment says of word i of the call under a name, put at the front of the lent bytes: how many bytes that has, and none where nothing is said or there is no room.
+fn said_of(rt: &HostRuntime, name: &str, i: usize, text: &mut [u8]) -> Option<usize>
+    ensures { IfSome result (λ size. IsPrefixLen size text.new) }
+{
+    let name = format!(in rt.alloc(); "{name}_{i}").ok()?;
+    rt.var(name.as_str(), text).ok()
+}
+
+// The error of a name that was refused for this reason.
+fn refused(reason: &[u8]) -> Error {
+    Error::new(
+        ErrorKind::InvalidInput,
+        std::str::from_utf8(reason).unwrap_or(""),
+    )
+}
+
+// Opens the file that word i of the call names where that name is no text: the standard library takes names of text alone, so the launcher opens it, and says in the environment
+// which descriptor it has, or why it could not be opened.
+fn open_handed(rt: &HostRuntime, i: usize) -> Result<File> {
+    let mut text = [0u8; 80];
+    if let Some(size) = said_of(rt, "SHADEBROOK_OPENED", i, &mut text) {
+        let number = std::str::from_utf8(&text[..size]).unwrap_or("");
+        let path = format!(in rt.alloc(); "/proc/self/fd/{number}")?;
+        return File::open(rt, path.as_str());
+    }
+    match said_of(rt, "SHADEBROOK_REFUSED", i, &mut text) {
+        Some(size) => Err(refused(&text[..size])),
+        None => Err(refused(b"a name that is no text")),
     }
 }
 
-// Opens the log of this name for reading. What is wrong is said, and then its verdict is not 0.
-fn opened(rt: &HostRuntime, program: &[u8], name: &[u8]) -> Log
+// Opens the file that word i of the call names, for reading.
+fn open_read(rt: &HostRuntime, i: usize, name: &[u8]) -> Result<File> {
+    match std::str::from_utf8(name) {
+        Ok(path) => File::open(rt, path),
+        Err(_) => open_handed(rt, i),
+    }
+}
+
+// Opens the log of this name, word i of the call, for reading. What is wrong is said, and then its verdict is not 0.
+fn opened(rt: &HostRuntime, program: &[u8], i: usize, name: &[u8]) -> Log
     ensures { result.size ≡ length name.now }
 {
     let mut source = Source::Input(rt.stdin());
@@ -147,7 +178,7 @@ fn opened(rt: &HostRuntime, program: &[u8], name: &[u8]) -> Log
         Word::Flag => {
             verdict = wrong(rt, program, b"unknown flag", name);
         }
-        Word::Name => match open_read(rt, name) {
+        Word::Name => match open_read(rt, i, name) {
             Ok(file) => {
                 source = Source::Opened(file);
             }
@@ -173,7 +204,7 @@ pub fn log_of(rt: &HostRuntime, program: &[u8], c: Call, i: usize, name: &mut [u
         return input_log(rt, name);
     }
     match word_at(rt, i, name) {
-        Some(size) => opened(rt, program, &name[..size]),
+        Some(size) => opened(rt, program, i, &name[..size]),
         None => {
             let place = if c.first <= i { i - c.first + 1 } else { i };
             Log {

@@ -4,8 +4,10 @@ ghost use Rattle.outside.specs.World.{Written};
 
 use crate::tries::{again, code_of};
 use crate::{Call, Sent};
+use std::fs;
 use std::fs::File;
 use std::io::{Error, Write};
+use std::os::unix::fs::PermissionsExt;
 use std::rt::HostRuntime;
 
 // Writes once, from a place on, and as often as it is worth another try where nothing was taken. The answer is how many bytes the system took, or the error where it failed.
@@ -118,10 +120,17 @@ pub fn say(rt: &HostRuntime, bytes: &[u8], end: usize) -> u8
     0
 }
 
-// The descriptor of this number, opened for writing.
+// What the system calls a descriptor that may be written to, by a bit of its link's mode.
+const MAY_WRITE: u32 = 0o200;
+
+// The descriptor of this number, opened anew to write behind what it has, where it may be written to.
 fn open_verdict(rt: &HostRuntime, number: i32) -> Option<File> {
     let path = format!(in rt.alloc(); "/proc/self/fd/{number}").ok()?;
-    File::options().write(true).open(rt, path.as_str()).ok()
+    let link = fs::symlink_metadata(rt, path.as_str()).ok()?;
+    if link.permissions().mode() & MAY_WRITE == 0 {
+        return None;
+    }
+    File::options().append(true).open(rt, path.as_str()).ok()
 }
 
 // Tells the verdict, one digit, to the descriptor that was given for it, and to none where none was. The answer is whether it was told.

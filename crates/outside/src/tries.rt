@@ -12,7 +12,7 @@ const EINTR: i32 = 4;
 
 const EAGAIN: i32 = 11;
 
-// Lets a millisecond pass, or less where a signal comes.
+// Lets a millisecond pass.
 fn rest(rt: &HostRuntime) {
     rt.sleep(Duration::from_millis(1));
 }

@@ -1,5 +1,5 @@
 -- What one read behind the bytes of a window answers and leaves. Which bytes come is the system's to say.
-use Rattle.std.specs.Prelude.{ℕ, ◌≤◌, ◌<◌, ◌≡◌, List, true, false, length, take}
+use Rattle.std.specs.Prelude.{ℕ, ◌≤◌, ◌<◌, ◌≡◌, List, true, false, length, take, is_some, None}
 use Rattle.input.specs.declared.Block.{Block}
 
 -- the bytes that wait stay, and the window is as long as it was
@@ -16,6 +16,11 @@ pub record Behind (before : List ℕ) (filled : ℕ) (after : List ℕ) (b : Blo
   pub none_failed : b.failed ≡ true → b.end ≡ filled
   pub none_last : b.last ≡ true → b.end ≡ filled
   pub some : b.failed ≡ false → b.last ≡ false → filled < b.end
+
+-- a read that failed has its error, and one that did not has none; where none was made there is none either
+pub record Explained (before : List ℕ) (filled : ℕ) (b : Block) : Type 0 where
+  pub made : filled < length before → b.failed ≡ is_some b.error
+  pub none : length before ≤ filled → b.error ≡ None
 
 -- no read: the window is as it was, its end is its length, and that is a failure
 pub record NotRead (before after : List ℕ) (b : Block) : Type 0 where

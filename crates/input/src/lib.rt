@@ -1,8 +1,8 @@
 // Bytes from a reader, in a window: read behind those that it holds, and what is left of them moved to its front.
 #![tactic(auto)]
 
-ghost use Rattle.std.specs.Prelude.{◌≡◌, ◌++◌, ◌≤◌, ◌<◌, ◌+◌, length, drop, IfOk};
-ghost use Rattle.input.specs.Block.{Kept, Behind, Read};
+ghost use Rattle.std.specs.Prelude.{◌≡◌, ◌++◌, ◌≤◌, ◌<◌, ◌+◌, length, drop, IfOk, is_some};
+ghost use Rattle.input.specs.Block.{Kept, Behind, Read, Explained};
 ghost use Rattle.input.specs.Part.{part};
 
 use std::io::{Error, Read};
@@ -53,7 +53,8 @@ fn read_tries<R: Read>(
 // Reads behind the bytes that wait. Where the input has ended, or the read failed, nothing came.
 fn read_behind<R: Read>(rt: &HostRuntime, from: &mut R, window: &mut [u8], filled: usize) -> Block
     requires { filled < length window.old }
-    ensures { Behind window.old filled window.new result }
+    ensures behind { Behind window.old filled window.new result }
+    ensures error { result.failed ≡ is_some result.error }
 {
     let mut more = 0;
     let mut error = None;
@@ -92,6 +93,7 @@ pub fn read_block<R: Read>(
 ) -> Block
     ensures within { result.end ≤ length window.old }
     ensures reads { Read window.old filled window.new result }
+    ensures error { Explained window.old filled result }
 {
     if window.len() <= filled {
         return Block {

@@ -4,9 +4,9 @@ ghost use Rattle.io.specs.Counts.{IsPrefixLen};
 ghost use Rattle.outside.specs.World.{StandardInput};
 
 use crate::out::{cannot, complain, wrong};
-use crate::source::Source;
+use crate::source::{Source, descriptor_path};
 use crate::words::{number_of, word_of};
-use crate::{Call, Log, Number, Word};
+use crate::{Call, LONGEST_NAME, Log, Number, Word};
 use std::env::FillError;
 use std::fs::File;
 use std::io::{Error, ErrorKind, Result};
@@ -77,7 +77,7 @@ pub fn called(rt: &HostRuntime) -> Call
 fn too_many(rt: &HostRuntime, program: &[u8], i: usize) -> u8
     ensures { result ≡ 2 }
 {
-    let mut word = [0u8; 4096];
+    let mut word = [0u8; LONGEST_NAME];
     let size = word_at(rt, i, &mut word).unwrap_or(0);
     wrong(rt, program, b"a word too many", &word[..size])
 }
@@ -146,9 +146,9 @@ fn refused(reason: &[u8]) -> Error {
 fn open_handed(rt: &HostRuntime, i: usize) -> Result<File> {
     let mut text = [0u8; 80];
     if let Some(size) = said_of(rt, "SHADEBROOK_OPENED", i, &mut text) {
-        let number = std::str::from_utf8(&text[..size]).unwrap_or("");
-        let path = format!(in rt.alloc(); "/proc/self/fd/{number}")?;
-        return File::open(rt, path.as_str());
+        if let Number::Is(number) = number_of(&text[..size]) {
+            return File::open(rt, descriptor_path(rt, number)?.as_str());
+        }
     }
     match said_of(rt, "SHADEBROOK_REFUSED", i, &mut text) {
         Some(size) => Err(refused(&text[..size])),

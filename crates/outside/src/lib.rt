@@ -18,6 +18,9 @@ use std::rt::HostRuntime;
 pub use tries::{again, code_of};
 pub use words::{number_of, word_of};
 
+// The system takes no name of more bytes.
+pub const LONGEST_NAME: usize = 4096;
+
 // What a word of a call is: nothing at all; standard input, which is `-`; a flag, any other word that begins so; or a name.
 #[derive(Clone, Copy)]
 pub enum Word {

@@ -1,7 +1,8 @@
 // Bytes written out, what is said on standard error, and the verdict. Each that says something went wrong answers the verdict that it leads to.
-ghost use Rattle.std.specs.Prelude.{◌≡◌, false, ◌+◌, ◌≤◌, length, IfOk};
+ghost use Rattle.std.specs.Prelude.{◌≡◌, true, false, ◌+◌, ◌≤◌, length, IfOk};
 ghost use Rattle.outside.specs.World.{Written};
 
+use crate::source::descriptor_path;
 use crate::tries::{again, code_of};
 use crate::{Call, Sent};
 use std::fs;
@@ -35,7 +36,8 @@ fn write_some<W: Write>(
 
 // Writes all of the bytes, or stops at the first write that fails or takes nothing.
 pub fn write_out<W: Write>(rt: &HostRuntime, to: &mut W, bytes: &[u8]) -> Sent
-    ensures { Written bytes.now result }
+    ensures written { Written bytes.now result }
+    ensures error { result.whole ≡ true → result.error ≡ None }
 {
     let mut done: usize = 0;
     let mut failed = None;
@@ -125,7 +127,7 @@ const MAY_WRITE: u32 = 0o200;
 
 // The descriptor of this number, opened anew to write behind what it has, where it may be written to.
 fn open_verdict(rt: &HostRuntime, number: i32) -> Option<File> {
-    let path = format!(in rt.alloc(); "/proc/self/fd/{number}").ok()?;
+    let path = descriptor_path(rt, u32::try_from(number).ok()?).ok()?;
     let link = fs::symlink_metadata(rt, path.as_str()).ok()?;
     if link.permissions().mode() & MAY_WRITE == 0 {
         return None;

@@ -1,7 +1,7 @@
 // Where a log's bytes come from.
 use std::fs::File;
 use std::io::{Read, Result};
-use std::rt::Stdin;
+use std::rt::{HostRuntime, Stdin};
 
 // Standard input, or a file that was opened by its name.
 #[derive(Drop)]
@@ -17,4 +17,9 @@ impl Read for Source {
             Source::Opened(file) => file.read(buf),
         }
     }
+}
+
+// The name that this program's descriptor of this number has among the files.
+pub(crate) fn descriptor_path(rt: &HostRuntime, number: u32) -> Result<String> {
+    Ok(format!(in rt.alloc(); "/proc/self/fd/{number}")?)
 }

@@ -11,44 +11,36 @@ mod moved;
 mod near;
 mod print;
 mod records;
-mod same;
 
 use rules::{Event, Kind, Session, Setup, Terms};
 use std::rt::HostRuntime;
 
 // A setup of four tasks, or of the first n of them, by fixed priority.
 pub(crate) fn setup_of(m: u8, n: u8, a: Terms, b: Terms, c: Terms, d: Terms) -> Setup {
-    let mut terms = [Terms {
-        priority: 0,
-        period: 0,
-        transactions: 0,
-    }; 64];
-    terms[0] = a;
-    terms[1] = b;
-    terms[2] = c;
-    terms[3] = d;
+    let mut terms = [Terms::default(); 64];
+    terms[..4].copy_from_slice(&[a, b, c, d]);
     Setup {
-        m: m,
-        n: n,
+        m,
+        n,
         mode: 0,
-        terms: terms,
+        terms,
     }
 }
 
 pub(crate) fn terms_of(priority: u16, period: u32, transactions: u8) -> Terms {
     Terms {
-        priority: priority,
-        period: period,
-        transactions: transactions,
+        priority,
+        period,
+        transactions,
     }
 }
 
 // An event with no sets.
 pub(crate) fn event(kind: Kind, tick: u32, task: u8) -> Event {
     Event {
-        kind: kind,
-        tick: tick,
-        task: task,
+        kind,
+        tick,
+        task,
         reads: [0; 4],
         writes: [0; 4],
     }
@@ -58,8 +50,8 @@ pub(crate) fn event(kind: Kind, tick: u32, task: u8) -> Event {
 pub(crate) fn release(tick: u32, task: u8, reads: u64, writes: u64) -> Event {
     Event {
         kind: Kind::Release,
-        tick: tick,
-        task: task,
+        tick,
+        task,
         reads: [reads, 0, 0, 0],
         writes: [writes, 0, 0, 0],
     }
@@ -80,7 +72,7 @@ pub(crate) fn session_setup() -> Setup {
         terms_of(10, 100, 2),
         terms_of(30, 50, 1),
         terms_of(20, 80, 1),
-        terms_of(0, 0, 0),
+        Terms::default(),
     )
 }
 
@@ -107,9 +99,8 @@ pub(crate) fn session_event(k: u8) -> Event {
 // 'A whole session', as its lines.
 fn whole_session(rt: &HostRuntime) {
     let u = session_setup();
-    let started = setup::setup(u);
     print::setup_line(rt, u);
-    let mut s = started.session;
+    let mut s = setup::setup(u).session;
     for k in 0..14 {
         s = go(rt, s, session_event(k));
     }
@@ -133,9 +124,8 @@ fn rising(m: u8) -> Setup {
 // 'Scanning after commits only': the release that waits at tick 8 admits task 1. It did not run at tick 7: two were executing. Object 1 is 2, object 2 is 4.
 fn deferred_release_scans(rt: &HostRuntime) {
     let u = rising(2);
-    let started = setup::setup(u);
     print::setup_line(rt, u);
-    let mut s = started.session;
+    let mut s = setup::setup(u).session;
     s = go(rt, s, event(Kind::Arrive, 0, 0));
     s = go(rt, s, release(1, 0, 0, 2));
     s = go(rt, s, event(Kind::Arrive, 2, 1));
@@ -154,9 +144,8 @@ fn deferred_release_scans(rt: &HostRuntime) {
 // Object 1 is 2, object 2 is 4, object 3 is 8.
 fn ran_and_did_not(rt: &HostRuntime) {
     let u = rising(3);
-    let started = setup::setup(u);
     print::setup_line(rt, u);
-    let mut s = started.session;
+    let mut s = setup::setup(u).session;
     s = go(rt, s, event(Kind::Arrive, 0, 0));
     s = go(rt, s, release(1, 0, 8, 2));
     s = go(rt, s, event(Kind::Arrive, 2, 1));
@@ -174,8 +163,7 @@ fn ran_and_did_not(rt: &HostRuntime) {
 fn refused(rt: &HostRuntime, s: Session, e: Event) {
     let answer = session::step(s, e);
     print::answer_lines(rt, e, answer);
-    let after = answer.session;
-    print::same(rt, same::same_session(s, after));
+    print::same(rt, answer.session == s);
 }
 
 // The refusals 1 to 4, and those of 4 for each event.
@@ -183,8 +171,10 @@ fn first_refusals(rt: &HostRuntime, fresh: Session) -> Session {
     refused(rt, fresh, event(Kind::Arrive, 0, 2));
     let s = go(rt, fresh, event(Kind::Arrive, 5, 0));
     refused(rt, s, event(Kind::Arrive, 4, 1));
-    let mut full = s;
-    full.accepted = 1000000;
+    let full = Session {
+        accepted: 1_000_000,
+        ..s
+    };
     refused(rt, full, event(Kind::Arrive, 5, 1));
     refused(rt, s, event(Kind::Arrive, 6, 0));
     refused(rt, s, event(Kind::Commit, 6, 0));
@@ -209,14 +199,12 @@ fn last_refusals(rt: &HostRuntime, before: Session) {
 // A setup that is refused, and an event on the session that stands in its place.
 fn bad_setup(rt: &HostRuntime, u: Setup) {
     let started = setup::setup(u);
-    let said = started.said;
-    let s = started.session;
-    print::bad_line(rt, said);
-    refused(rt, s, event(Kind::Arrive, 0, 0));
+    print::bad_line(rt, started.said);
+    refused(rt, started.session, event(Kind::Arrive, 0, 0));
 }
 
 fn bad_setups(rt: &HostRuntime, a: Terms, b: Terms) {
-    let none = terms_of(0, 0, 0);
+    let none = Terms::default();
     bad_setup(rt, setup_of(0, 2, a, b, none, none));
     bad_setup(rt, setup_of(17, 2, a, b, none, none));
     bad_setup(rt, setup_of(1, 0, a, b, none, none));
@@ -224,7 +212,10 @@ fn bad_setups(rt: &HostRuntime, a: Terms, b: Terms) {
     bad_setup(rt, modes::in_mode(2, setup_of(1, 65, a, b, none, none)));
     bad_setup(rt, modes::in_mode(2, setup_of(1, 3, a, b, none, none)));
     bad_setup(rt, setup_of(1, 3, a, b, none, none));
-    bad_setup(rt, setup_of(1, 2, a, terms_of(20, 86400001, 1), none, none));
+    bad_setup(
+        rt,
+        setup_of(1, 2, a, terms_of(20, 86_400_001, 1), none, none),
+    );
     bad_setup(rt, setup_of(1, 2, terms_of(10, 0, 1), none, none, none));
 }
 
@@ -234,11 +225,10 @@ fn main(rt: HostRuntime) {
     deferred_release_scans(rt);
     ran_and_did_not(rt);
     modes::both_modes(rt);
-    let none = terms_of(0, 0, 0);
+    let none = Terms::default();
     let a = terms_of(10, 100, 1);
     let b = terms_of(20, 50, 1);
-    let started = setup::setup(setup_of(1, 2, a, b, none, none));
-    let fresh = started.session;
+    let fresh = setup::setup(setup_of(1, 2, a, b, none, none)).session;
     let s = first_refusals(rt, fresh);
     last_refusals(rt, s);
     bad_setups(rt, a, b);

@@ -3,37 +3,28 @@
 // 30 + 99 + 219 + 8 = 356 bytes by sets, and 30 + 99 + 43 + 8 = 180 by lists.
 use crate::records::{first_of, whole};
 use crate::{print, release, session_event, session_setup, setup_of, terms_of};
-use rules::Event;
+use rules::{Event, Terms};
 use std::rt::HostRuntime;
-use writing::Wrote;
 
-// The place after what was written; the end of the buffer where there was no room.
-fn next(wrote: Wrote, end: usize) -> usize {
-    match wrote {
-        Wrote::Next(at) => at,
-        Wrote::No(_) => end,
-    }
-}
-
-// An event's record at a place, a release by lists or by sets: the place after it.
+// An event's record at a place, a release by lists or by sets: the place after it, and the end of the buffer where there is no room.
 fn put(buf: &mut [u8], at: usize, by_lists: bool, e: Event) -> usize {
-    if by_lists {
-        let wrote = writing::write_event_by_lists(buf, at, e);
-        return next(wrote, buf.len());
-    }
-    let wrote = writing::write_event(buf, at, e);
-    next(wrote, buf.len())
+    let next = if by_lists {
+        writing::write_event_by_lists(buf, at, e)
+    } else {
+        writing::write_event(buf, at, e)
+    };
+    next.unwrap_or(buf.len())
 }
 
 // A log of one task with two releases, each by lists or by sets: its number, and how many events were read. It fills the buffer, with 14 bytes of setup, the releases and
 // 8 of the end.
 fn two_releases(rt: &HostRuntime, buf: &mut [u8], first: bool, second: bool) {
-    let none = terms_of(0, 0, 0);
+    let none = Terms::default();
     let u = setup_of(1, 1, terms_of(1, 1, 2), none, none, none);
-    writing::write_setup(buf, 0, u);
+    let _ = writing::write_setup(buf, 0, u);
     let middle = put(buf, 14, first, release(3, 0, 1, 2));
     let end = put(buf, middle, second, release(4, 0, 1, 2));
-    writing::write_end(buf, end, 2);
+    let _ = writing::write_end(buf, end, 2);
     whole(rt, buf);
 }
 
@@ -47,12 +38,12 @@ pub(crate) fn one_kind_only(rt: &HostRuntime) {
 
 // The session as a log, by sets.
 fn session_log(buf: &mut [u8]) {
-    writing::write_setup(buf, 0, session_setup());
+    let _ = writing::write_setup(buf, 0, session_setup());
     let mut at: usize = 30;
     for k in 0..14 {
         at = put(buf, at, false, session_event(k));
     }
-    writing::write_end(buf, at, 14);
+    let _ = writing::write_end(buf, at, 14);
 }
 
 // There and back gives the same bytes.

@@ -3,6 +3,7 @@
 // never runs: with one that executes they are more than m, and the retry count is 0.
 use crate::{event, go, print, release, setup_of, terms_of};
 use rules::{Event, Kind, Session};
+use std::ops::Range;
 use std::rt::HostRuntime;
 
 // Arrivals on both ends: a wait of 10 ticks beside a task of period 10 with one transaction a job. The clash count is 3 and so is the sum, 1 × (⌊10/10⌋ + 2); the
@@ -17,9 +18,8 @@ pub(crate) fn both_ends(rt: &HostRuntime) {
         terms_of(30, 1000, 0),
         idle,
     );
-    let started = setup::setup(u);
     print::setup_line(rt, u);
-    let mut s = started.session;
+    let mut s = setup::setup(u).session;
     s = go(rt, s, event(Kind::Arrive, 0, 1));
     s = go(rt, s, release(0, 1, 0, 32));
     s = go(rt, s, event(Kind::Arrive, 10, 0));
@@ -43,8 +43,7 @@ pub(crate) fn both_ends(rt: &HostRuntime) {
 
 // One event, with no line.
 fn quiet(s: Session, e: Event) -> Session {
-    let answer = session::step(s, e);
-    answer.session
+    session::step(s, e).session
 }
 
 // One transaction that writes object 5.
@@ -53,34 +52,28 @@ fn transaction(s: Session, tick: u32, task: u8) -> Session {
     quiet(runs, event(Kind::Commit, tick, task))
 }
 
-// One to three transactions of one job, and its end.
+// So many transactions of one job, and its end.
 fn rest_of_job(before: Session, tick: u32, task: u8, times: u8) -> Session {
-    let mut s = transaction(before, tick, task);
-    if 1 < times {
-        s = transaction(s, tick, task);
-    }
-    if 2 < times {
-        s = transaction(s, tick, task);
-    }
-    quiet(s, event(Kind::Finish, tick, task))
+    let after = (0..times).fold(before, |s, _| transaction(s, tick, task));
+    quiet(after, event(Kind::Finish, tick, task))
 }
 
 fn job(s: Session, tick: u32, task: u8, times: u8) -> Session {
     rest_of_job(quiet(s, event(Kind::Arrive, tick, task)), tick, task, times)
 }
 
+// The tasks of these numbers arrive at one tick.
+fn arrive_all(before: Session, tick: u32, tasks: Range<u8>) -> Session {
+    tasks.fold(before, |s, task| quiet(s, event(Kind::Arrive, tick, task)))
+}
+
 // Task 0 waits from tick 20, for task 1's transaction; the jobs that were there end on the same tick.
 fn begin_wait(rt: &HostRuntime, fresh: Session) -> Session {
-    let mut s = quiet(fresh, event(Kind::Arrive, 0, 1));
-    s = quiet(s, event(Kind::Arrive, 0, 2));
-    s = quiet(s, event(Kind::Arrive, 0, 3));
+    let mut s = arrive_all(fresh, 0, 1..4);
     s = quiet(s, release(0, 1, 0, 32));
     s = go(rt, s, event(Kind::Arrive, 20, 0));
     s = go(rt, s, release(20, 0, 0, 32));
-    s = quiet(s, event(Kind::Arrive, 20, 4));
-    s = quiet(s, event(Kind::Arrive, 20, 5));
-    s = quiet(s, event(Kind::Arrive, 20, 6));
-    s = quiet(s, event(Kind::Arrive, 20, 7));
+    s = arrive_all(s, 20, 4..8);
     s = quiet(s, event(Kind::Commit, 20, 1));
     s = rest_of_job(s, 20, 1, 1);
     s = rest_of_job(s, 20, 2, 3);
@@ -89,19 +82,22 @@ fn begin_wait(rt: &HostRuntime, fresh: Session) -> Session {
 
 // The jobs that arrive from tick 20 to tick 45: every 5 ticks of task 1, every 7 of task 2, every 12 of task 3.
 fn jobs_of_the_wait(waiting: Session) -> Session {
-    let mut s = job(waiting, 20, 1, 2);
-    s = job(s, 20, 2, 3);
-    s = job(s, 20, 3, 1);
-    s = job(s, 25, 1, 2);
-    s = job(s, 27, 2, 3);
-    s = job(s, 30, 1, 2);
-    s = job(s, 32, 3, 1);
-    s = job(s, 34, 2, 3);
-    s = job(s, 35, 1, 2);
-    s = job(s, 40, 1, 2);
-    s = job(s, 41, 2, 3);
-    s = job(s, 44, 3, 1);
-    job(s, 45, 1, 2)
+    let jobs = [
+        (20, 1, 2),
+        (20, 2, 3),
+        (20, 3, 1),
+        (25, 1, 2),
+        (27, 2, 3),
+        (30, 1, 2),
+        (32, 3, 1),
+        (34, 2, 3),
+        (35, 1, 2),
+        (40, 1, 2),
+        (41, 2, 3),
+        (44, 3, 1),
+        (45, 1, 2),
+    ];
+    jobs.iter().fold(waiting, |s, &(tick, task, times)| job(s, tick, task, times))
 }
 
 // Three tasks at once: periods 5, 7 and 12, with 2, 3 and 1 transactions a job, over a wait of 25 ticks. The jobs that were there commit 2 + 3 + 1; those that
@@ -116,14 +112,11 @@ pub(crate) fn three_tasks(rt: &HostRuntime) {
         terms_of(70, 7, 3),
         terms_of(60, 12, 1),
     );
-    u.terms[4] = terms_of(50, 1000, 0);
-    u.terms[5] = terms_of(40, 1000, 0);
-    u.terms[6] = terms_of(30, 1000, 0);
-    u.terms[7] = terms_of(20, 1000, 0);
-    let started = setup::setup(u);
+    for (i, priority) in [50, 40, 30, 20].iter().enumerate() {
+        u.terms[i + 4] = terms_of(*priority, 1000, 0);
+    }
     print::setup_line(rt, u);
-    let fresh = started.session;
-    let mut s = jobs_of_the_wait(begin_wait(rt, fresh));
+    let mut s = jobs_of_the_wait(begin_wait(rt, setup::setup(u).session));
     s = go(rt, s, event(Kind::Finish, 45, 4));
     print::sum_line(rt, session::sum(s, 0, 25));
 }

@@ -1,21 +1,31 @@
 // A session read back from words.
-ghost use Rattle.std.specs.Prelude.{◌≡◌, ◌<◌};
+ghost use Rattle.std.specs.Prelude.{◌≡◌, ◌<◌, ◌%◌};
 ghost use Rattle.rules.specs.Tasks.{with_groups};
 ghost use Rattle.machine.specs.Opened.{four_at, arrival_back, state_back, task_back, read_back};
 
 use crate::numbers::Row;
 use machine::Words;
-use rules::{Arrival, Session, State, Task, Terms, Wait};
+use rules::{Session, State, Task, Terms, Wait};
 use seek::has_bit;
 
-fn arrival_back(code: u64) -> Arrival
+// The low byte of a word.
+fn low_8(word: u64) -> u8
+    ensures { result ≡ word % 256 }
+{
+    (word % 256) as u8
+}
+
+// The low half of a word.
+fn low_32(word: u64) -> u32
+    ensures { result ≡ word % 4294967296 }
+{
+    (word % 4_294_967_296) as u32
+}
+
+fn arrival_back(code: u64) -> Option<u32>
     ensures { result ≡ arrival_back code }
 {
-    if code == 0 {
-        Arrival::Never
-    } else {
-        Arrival::At(((code - 1) % 4294967296) as u32)
-    }
+    code.checked_sub(1).map(low_32)
 }
 
 // The state of task i, by the words that have its bit.
@@ -23,22 +33,21 @@ fn state_back(words: &Words, i: usize) -> State
     requires { i < 64 }
     ensures { result ≡ state_back words.now i }
 {
-    if has_bit(words[4], i as u64) {
-        return State::Plain;
-    }
-    if has_bit(words[5], i as u64) {
+    let task = i as u64;
+    if has_bit(words[4], task) {
+        State::Plain
+    } else if has_bit(words[5], task) {
         let base = 136 + i * 8;
-        let wait = Wait {
-            release: (words[base + 5] % 4294967296) as u32,
-            clashes: (words[base + 6] % 4294967296) as u32,
-            retries: (words[base + 7] % 4294967296) as u32,
-        };
-        return State::Waiting(wait);
+        State::Waiting(Wait {
+            release: low_32(words[base + 5]),
+            clashes: low_32(words[base + 6]),
+            retries: low_32(words[base + 7]),
+        })
+    } else if has_bit(words[6], task) {
+        State::Executing
+    } else {
+        State::Absent
     }
-    if has_bit(words[6], i as u64) {
-        return State::Executing;
-    }
-    State::Absent
 }
 
 fn task_back(words: &Words, i: usize) -> Task
@@ -46,18 +55,15 @@ fn task_back(words: &Words, i: usize) -> Task
     ensures { result ≡ task_back words.now i }
 {
     let base = 136 + i * 8;
-    let terms = Terms {
-        priority: (words[base] % 65536) as u16,
-        period: (words[base + 1] % 4294967296) as u32,
-        transactions: (words[base + 2] % 256) as u8,
-    };
-    let state = state_back(words, i);
-    let arrival = arrival_back(words[base + 3]);
     Task {
-        terms: terms,
-        state: state,
-        arrival: arrival,
-        releases: (words[base + 4] % 256) as u8,
+        terms: Terms {
+            priority: (words[base] % 65_536) as u16,
+            period: low_32(words[base + 1]),
+            transactions: low_8(words[base + 2]),
+        },
+        state: state_back(words, i),
+        arrival: arrival_back(words[base + 3]),
+        releases: low_8(words[base + 4]),
         rank: words[1160 + i],
     }
 }
@@ -68,26 +74,23 @@ fn four_back(row: &mut Row, words: &Words, i: usize, at: usize)
     ensures { row.new ≡ with_groups row.old i (four_at words.now at) }
 {
     let base = i * 4;
-    row[base] = words[at];
-    row[base + 1] = words[at + 1];
-    row[base + 2] = words[at + 2];
-    row[base + 3] = words[at + 3];
+    row[base..base + 4].copy_from_slice(&words[at..at + 4]);
 }
 
 // The session that the words hold, with what stands past n from the session that is handed in.
 pub fn read(words: &Words, s: Session) -> Session
     ensures { result ≡ read_back words.now s }
 {
-    let mut back = s;
-    back.m = (words[0] % 256) as u8;
-    back.n = (words[1] % 256) as u8;
-    back.mode = (words[1224] % 256) as u8;
-    back.tick = (words[2] % 4294967296) as u32;
-    back.accepted = (words[3] % 4294967296) as u32;
-    let mut end: usize = 64;
-    if words[1] < 64 {
-        end = words[1] as usize;
-    }
+    let mut back = Session {
+        m: low_8(words[0]),
+        n: low_8(words[1]),
+        mode: low_8(words[1224]),
+        tick: low_32(words[2]),
+        accepted: low_32(words[3]),
+        ..s
+    };
+    let end = words[1].min(64) as usize;
+    // Each of the three that make up a task goes by its number.
     for i in 0..end {
         back.tasks[i] = task_back(words, i);
         four_back(&mut back.reads, words, i, 648 + i * 8);

@@ -5,54 +5,44 @@ ghost use Rattle.machine.specs.Opened.{arrival_code, terms_put, wait_put, four_o
 
 use machine::Words;
 use objects::Groups;
-use rules::{Arrival, State, Task, Wait};
+use rules::{State, Task, Wait};
 
 // The row of a session's sets: group g of task i at place i * 4 + g.
 pub(crate) type Row = [u64; 256];
 
 // 0 where there was no arrival, and else one more than its tick.
-fn arrival_code(arrival: Arrival) -> u64
+fn arrival_code(arrival: Option<u32>) -> u64
     ensures { result ≡ arrival_code arrival }
 {
-    match arrival {
-        Arrival::Never => 0,
-        Arrival::At(tick) => tick as u64 + 1,
-    }
+    arrival.map_or(0, |tick| u64::from(tick) + 1)
 }
 
 // The wait of a waiting task, and one of which every number is 0 of any other.
 fn wait_of(state: State) -> Wait
     ensures { result ≡ wait_of state }
 {
-    let State::Waiting(wait) = state else {
-        return Wait {
-            release: 0,
-            clashes: 0,
-            retries: 0,
-        };
-    };
-    wait
+    match state {
+        State::Waiting(wait) => wait,
+        _ => Wait::default(),
+    }
 }
 
 // The numbers of task i.
-pub(crate) fn put_numbers(words: &mut Words, i: usize, t: Task)
+pub(crate) fn put_numbers(words: &mut Words, i: usize, task: Task)
     requires { i < 64 }
-    ensures { words.new ≡ wait_put (terms_put words.old i t) i (wait_of t.state) }
+    ensures { words.new ≡ wait_put (terms_put words.old i task) i (wait_of task.state) }
 {
-    let terms = t.terms;
-    let arrival = t.arrival;
-    let state = t.state;
-    let wait = wait_of(state);
     let base = 136 + i * 8;
-    words[base] = terms.priority as u64;
-    words[base + 1] = terms.period as u64;
-    words[base + 2] = terms.transactions as u64;
-    words[base + 3] = arrival_code(arrival);
-    words[base + 4] = t.releases as u64;
-    words[1160 + i] = t.rank;
-    words[base + 5] = wait.release as u64;
-    words[base + 6] = wait.clashes as u64;
-    words[base + 7] = wait.retries as u64;
+    let wait = wait_of(task.state);
+    words[base] = u64::from(task.terms.priority);
+    words[base + 1] = u64::from(task.terms.period);
+    words[base + 2] = u64::from(task.terms.transactions);
+    words[base + 3] = arrival_code(task.arrival);
+    words[base + 4] = u64::from(task.releases);
+    words[1160 + i] = task.rank;
+    words[base + 5] = u64::from(wait.release);
+    words[base + 6] = u64::from(wait.clashes);
+    words[base + 7] = u64::from(wait.retries);
 }
 
 // The four words of task i in a row of sets.

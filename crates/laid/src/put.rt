@@ -15,16 +15,12 @@ fn put_state(words: &mut Words, i: usize, state: State)
 {
     match state {
         State::Absent => {}
-        State::Plain => {
-            words[4] = with_bit(words[4], i as u64);
-        }
+        State::Plain => words[4] = with_bit(words[4], i as u64),
         State::Waiting(_) => {
             words[5] = with_bit(words[5], i as u64);
             put_in_row(words, i as u64);
         }
-        State::Executing => {
-            words[6] = with_bit(words[6], i as u64);
-        }
+        State::Executing => words[6] = with_bit(words[6], i as u64),
     }
 }
 
@@ -32,30 +28,19 @@ fn put_state(words: &mut Words, i: usize, state: State)
 pub fn open(words: &mut Words, s: Session)
     ensures { words.new ≡ opened words.old s }
 {
-    words[0] = s.m as u64;
-    words[1] = s.n as u64;
-    words[2] = s.tick as u64;
-    words[3] = s.accepted as u64;
-    words[4] = 0;
-    words[5] = 0;
-    words[6] = 0;
-    words[7] = 0;
-    words[1224] = s.mode as u64;
-    let mut end: usize = 64;
-    if s.n < 64 {
-        end = s.n as usize;
+    words[0] = u64::from(s.m);
+    words[1] = u64::from(s.n);
+    words[2] = u64::from(s.tick);
+    words[3] = u64::from(s.accepted);
+    words[4..8].fill(0);
+    words[1224] = u64::from(s.mode);
+    let end = (s.n as usize).min(64);
+    for (i, task) in s.tasks[..end].iter().enumerate() {
+        put_numbers(words, i, *task);
+        put_sets(words, i as u64, four_of(&s.reads, i), four_of(&s.writes, i));
     }
-    for i in 0..end {
-        let t = s.tasks[i];
-        put_numbers(words, i, t);
-        let reads = four_of(&s.reads, i);
-        let writes = four_of(&s.writes, i);
-        put_sets(words, i as u64, reads, writes);
-    }
-    for i in 0..end {
+    for (i, task) in s.tasks[..end].iter().enumerate() {
         put_in_rank(words, i as u64);
-        let t = s.tasks[i];
-        let state = t.state;
-        put_state(words, i, state);
+        put_state(words, i, task.state);
     }
 }

@@ -15,8 +15,7 @@ use Rattle.objects.proofs.Laws.Below.{below_suc, below_or_from}
 use Rattle.rules.specs.declared.Wait.{Wait}
 use Rattle.rules.specs.declared.State.{State}
 use Rattle.rules.specs.declared.State.TheVariants.{Absent, Plain, Waiting, Executing}
-use Rattle.rules.specs.declared.Arrival.{Arrival}
-use Rattle.rules.specs.declared.Arrival.TheVariants.{Never, At}
+use Rattle.std.specs.Prelude.{Option, None, Some}
 use Rattle.rules.specs.declared.Task.{Task}
 use Rattle.rules.specs.declared.Session.{Session}
 use Rattle.rules.specs.Ranking.{Ranking}
@@ -68,12 +67,12 @@ rows_written f x next size (suc k) h =
 -- ---- a task
 
 -- a last arrival, from its number
-arrival_is : (a : Arrival) → ((tick : ℕ) → a ≡ At tick → tick < 2 ^ 32) → arrival_back (arrival_code a) ≡ a
-arrival_is Never fits = refl
-arrival_is (At tick) fits =
+arrival_is : (a : Option ℕ) → ((tick : ℕ) → a ≡ Some tick → tick < 2 ^ 32) → arrival_back (arrival_code a) ≡ a
+arrival_is None fits = refl
+arrival_is (Some tick) fits =
     let l = fits tick refl in
     let back : (tick + 1 - 1) % 4294967296 ≡ tick = omega arith in
-    rw (ne_eqb (tick + 1) 0 (omega arith)) (ap At back)
+    rw (ne_eqb (tick + 1) 0 (omega arith)) (ap Some back)
 
 -- a wait, from its numbers
 wait_is : (w : List ℕ) (i : ℕ) (v : Wait) → WaitHeld w i v → v.release < 2 ^ 32 → v.clashes < 2 ^ 32 → v.retries < 2 ^ 32 → wait_back w i ≡ v

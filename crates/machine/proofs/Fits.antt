@@ -13,7 +13,7 @@ use borrow.Author.Tests.{ltb-true}
 use Rattle.objects.specs.Objects.{Sets, clash}
 use Rattle.rules.specs.declared.State.{State}
 use Rattle.rules.specs.declared.State.TheVariants.{Absent, Plain, Waiting, Executing}
-use Rattle.rules.specs.declared.Arrival.TheVariants.{At}
+use Rattle.std.specs.Prelude.{Some}
 use Rattle.rules.specs.declared.Task.{Task}
 use Rattle.rules.specs.declared.Session.{Session}
 use Rattle.rules.specs.declared.Event.{Event}
@@ -40,7 +40,7 @@ pub record TaskFits (t : Task) : Type 0 where
   pub priority : t.terms.priority < 2 ^ 16
   pub period : t.terms.period < 2 ^ 32
   pub transactions : t.terms.transactions < 2 ^ 8
-  pub arrival : (tick : ℕ) → t.arrival ≡ At tick → tick < 2 ^ 32
+  pub arrival : (tick : ℕ) → t.arrival ≡ Some tick → tick < 2 ^ 32
   pub releases : t.releases < 2 ^ 8
   pub release : (wait_of t.state).release < 2 ^ 32
   pub clashes : (wait_of t.state).clashes < 2 ^ 32

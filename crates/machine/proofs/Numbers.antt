@@ -8,8 +8,7 @@ use lib.Dec.{eqb, leb, ltb}
 use borrow.Author.Tests.{ne_eqb, ltb-true}
 use Rattle.objects.specs.Objects.{bit}
 use Rattle.objects.proofs.Laws.Below.{and_right}
-use Rattle.rules.specs.declared.Arrival.{Arrival}
-use Rattle.rules.specs.declared.Arrival.TheVariants.{Never, At}
+use Rattle.std.specs.Prelude.{Option, None, Some}
 use Rattle.rules.specs.declared.Session.{Session}
 use Rattle.rules.specs.Ranking.{Ranking}
 use Rattle.rules.specs.Tasks.{is_plain, task_at, state_at, plain, allowed, known}
@@ -24,9 +23,9 @@ use Rattle.machine.proofs.Laws.Choices.{both}
 use Rattle.machine.proofs.Laws.Agree.{present, plain_bit, executing_bit, absent_agrees, left_agrees, room_agrees}
 
 -- an arrival is early by its code where it is early
-early_coded : (a : Arrival) (period tick : ℕ) → early_in (arrival_code a) period tick ≡ early a period tick
-early_coded Never period tick = refl
-early_coded (At last) period tick =
+early_coded : (a : Option ℕ) (period tick : ℕ) → early_in (arrival_code a) period tick ≡ early a period tick
+early_coded None period tick = refl
+early_coded (Some last) period tick =
     let less : last + 1 - 1 ≡ last = omega arith in
     rw (ne_eqb (last + 1) 0 (omega arith), less)
 

@@ -1,11 +1,9 @@
 -- Words that a session is laid into, and a session that is read back from them.
-use Rattle.std.specs.Prelude.{ℕ, zero, suc, ◌+◌, ◌-◌, ◌*◌, ◌%◌, min, List, [], ◌∷◌, cond, eqb, get_or, set}
+use Rattle.std.specs.Prelude.{ℕ, zero, suc, ◌+◌, ◌-◌, ◌*◌, ◌%◌, min, List, [], ◌∷◌, cond, eqb, get_or, set, Option, None, Some}
 use Rattle.objects.specs.Objects.{bit}
 use Rattle.rules.specs.declared.Wait.{Wait}
 use Rattle.rules.specs.declared.State.{State}
 use Rattle.rules.specs.declared.State.TheVariants.{Absent, Plain, Waiting, Executing}
-use Rattle.rules.specs.declared.Arrival.{Arrival}
-use Rattle.rules.specs.declared.Arrival.TheVariants.{Never, At}
 use Rattle.rules.specs.declared.Task.{Task}
 use Rattle.rules.specs.declared.Session.{Session}
 use Rattle.rules.specs.Tasks.{task_at, wait_of, with_groups}
@@ -22,9 +20,9 @@ head_put w s =
     set (set (set (set (set (set (set (set (set w 0 s.m) 1 s.n) 2 s.tick) 3 s.accepted) 4 0) 5 0) 6 0) 7 0) 1224 s.mode
 
 -- 0 where there was no arrival, and else one more than its tick
-abbrev pub arrival_code : Arrival → ℕ
-arrival_code Never = 0
-arrival_code (At tick) = tick + 1
+abbrev pub arrival_code : Option ℕ → ℕ
+arrival_code None = 0
+arrival_code (Some tick) = tick + 1
 
 -- the numbers of a task but for its wait
 abbrev pub terms_put : List ℕ → ℕ → Task → List ℕ
@@ -88,8 +86,8 @@ opened w s = states_put (numbers_put (head_put w s) s (held s)) s (held s)
 -- ---- read back
 
 -- a last arrival, from its number
-abbrev pub arrival_back : ℕ → Arrival
-arrival_back code = cond (eqb code 0) Never (At ((code - 1) % 4294967296))
+abbrev pub arrival_back : ℕ → Option ℕ
+arrival_back code = cond (eqb code 0) None (Some ((code - 1) % 4294967296))
 
 -- a wait, from its numbers
 abbrev pub wait_back : List ℕ → ℕ → Wait

@@ -1,7 +1,6 @@
 -- What is proved of the words. Start here: each event on words that hold a session gives the answer of the rules' step, and leaves words that hold the session after it.
-use Rattle.std.specs.Prelude.{ℕ, ◌+◌, ◌*◌, ◌^◌, ◌≤◌, ◌<◌, ◌≡◌, ◌≢◌, List, cond, length, get_or}
+use Rattle.std.specs.Prelude.{ℕ, ◌+◌, ◌*◌, ◌^◌, ◌≤◌, ◌<◌, ◌≡◌, ◌≢◌, List, cond, length, get_or, Some}
 use Rattle.rules.specs.declared.Setup.{Setup}
-use Rattle.rules.specs.declared.Arrival.TheVariants.{At}
 use Rattle.rules.specs.declared.Session.{Session}
 use Rattle.rules.specs.declared.Kind.TheVariants.{Arrive}
 use Rattle.rules.specs.declared.Event.{Event}
@@ -69,7 +68,7 @@ pub record Fits (s : Session) : Type 0 where
   pub priority : (i : ℕ) → (task_at s i).terms.priority < 2 ^ 16
   pub period : (i : ℕ) → (task_at s i).terms.period < 2 ^ 32
   pub transactions : (i : ℕ) → (task_at s i).terms.transactions < 2 ^ 8
-  pub arrival : (i tick : ℕ) → (task_at s i).arrival ≡ At tick → tick < 2 ^ 32
+  pub arrival : (i tick : ℕ) → (task_at s i).arrival ≡ Some tick → tick < 2 ^ 32
   pub releases : (i : ℕ) → (task_at s i).releases < 2 ^ 8
   pub release : (i : ℕ) → (wait_of (state_at s i)).release < 2 ^ 32
   pub clashes : (i : ℕ) → (wait_of (state_at s i)).clashes < 2 ^ 32

@@ -14,8 +14,8 @@ fn stamp(words: &mut Words, tick: u32)
     requires { accepted_of words.old < 1000000 }
     ensures { words.new ≡ stamped_in words.old tick }
 {
-    words[2] = tick as u64;
-    words[3] = words[3] + 1;
+    words[2] = u64::from(tick);
+    words[3] += 1;
 }
 
 // The rank of a job of task i that arrives at this tick.
@@ -25,17 +25,14 @@ fn rank_given(words: &Words, tick: u32, i: usize) -> u64
 {
     let base = 136 + i * 8;
     if words[1224] == 1 {
-        return tick as u64 + words[base + 1] % 4294967296;
-    }
-    let priority = words[base];
-    if priority < 65535 {
-        65535 - priority
+        u64::from(tick) + words[base + 1] % 4_294_967_296
     } else {
-        0
+        65_535u64.saturating_sub(words[base])
     }
 }
 
 // An absent task's job begins, and gets its rank.
+#[tactic(auto, using(placing::proofs::Laws::Tasks::task_mod, crate::proofs::Laws::Places::past_stamp), unfolding(machine::specs::Events::arrived_in))]
 pub(crate) fn begin(words: &mut Words, tick: u32, i: usize)
     requires { (i < 64) × (accepted_of words.old < 1000000) }
     ensures { words.new ≡ arrived_in words.old tick i }
@@ -43,7 +40,7 @@ pub(crate) fn begin(words: &mut Words, tick: u32, i: usize)
     stamp(words, tick);
     words[4] = with_bit(words[4], i as u64);
     let base = 136 + i * 8;
-    words[base + 3] = tick as u64 + 1;
+    words[base + 3] = u64::from(tick) + 1;
     words[base + 4] = 0;
     words[1160 + i] = rank_given(words, tick, i);
     put_in_rank(words, i as u64);
@@ -57,10 +54,11 @@ pub(crate) fn take_release(words: &mut Words, tick: u32, i: usize)
     stamp(words, tick);
     words[4] = without_bit(words[4], i as u64);
     let base = 136 + i * 8;
-    words[base + 4] = words[base + 4] + 1;
+    words[base + 4] += 1;
 }
 
 // The release runs.
+#[tactic(auto, using(placing::proofs::Laws::Tasks::task_mod), unfolding(machine::specs::Events::runs_in))]
 pub(crate) fn run(words: &mut Words, i: usize)
     requires { i < 64 }
     ensures { words.new ≡ runs_in words.old i }
@@ -69,13 +67,14 @@ pub(crate) fn run(words: &mut Words, i: usize)
 }
 
 // The release waits, from this tick on.
+#[tactic(auto, using(placing::proofs::Laws::Tasks::task_mod), unfolding(machine::specs::Events::waits_in))]
 pub(crate) fn wait(words: &mut Words, tick: u32, i: usize)
     requires { i < 64 }
     ensures { words.new ≡ waits_in words.old tick i }
 {
     words[5] = with_bit(words[5], i as u64);
     let base = 136 + i * 8;
-    words[base + 5] = tick as u64;
+    words[base + 5] = u64::from(tick);
     words[base + 6] = 0;
     words[base + 7] = 0;
     put_in_row(words, i as u64);
@@ -85,11 +84,7 @@ pub(crate) fn wait(words: &mut Words, tick: u32, i: usize)
 fn one_more(count: u64) -> u64
     ensures { result ≡ one_more count }
 {
-    if count < 4294967295 {
-        count + 1
-    } else {
-        4294967295
-    }
+    count.saturating_add(1).min(4_294_967_295)
 }
 
 // The counts of task j raised, where it ran or not.
@@ -98,25 +93,21 @@ fn raise(words: &mut Words, j: usize, ran: bool)
     ensures { words.new ≡ counts_raised words.old j ran }
 {
     let base = 136 + j * 8;
-    let retries = words[base + 7];
     words[base + 6] = one_more(words[base + 6]);
     if ran {
-        words[base + 7] = one_more(retries);
-    } else {
-        words[base + 7] = retries;
+        words[base + 7] = one_more(words[base + 7]);
     }
 }
 
 // The counts of every waiting transaction that clashes with that of task i.
+#[tactic(auto, using(placing::proofs::Laws::Tasks::task_mod, crate::proofs::Laws::Raised::ones_few, crate::proofs::Laws::Raised::raised_none, crate::proofs::Laws::Raised::raised_more), unfolding(machine::specs::Events::busy_in))]
 fn raise_all(words: &mut Words, i: usize)
     requires { i < 64 }
     ensures { words.new ≡ raised_in words.old i (busy_in words.old) (row_held words.old) }
 {
     let busy = ones_of(words[4]) + ones_of(words[6]);
-    let mut end: usize = 64;
-    if words[7] < 64 {
-        end = words[7] as usize;
-    }
+    let end = words[7].min(64) as usize;
+    // A turn writes the words that the row stands in, so no iterator can hold them.
     for p in 0..end {
         let task = words[8 + p];
         if clash_of(words, i as u64, task) {
@@ -127,6 +118,7 @@ fn raise_all(words: &mut Words, i: usize)
 }
 
 // An executing task's transaction commits: it is plain, and its sets are gone.
+#[tactic(auto, using(placing::proofs::Laws::Tasks::task_mod, machine::proofs::Laws::Places::kept, machine::proofs::Laws::Raised::raised_aside, machine::proofs::Laws::Raised::aside_low), unfolding(machine::specs::Events::committed_in))]
 pub(crate) fn end_transaction(words: &mut Words, tick: u32, i: usize)
     requires { (i < 64) × (accepted_of words.old < 1000000) }
     ensures { words.new ≡ committed_in words.old tick i }
@@ -135,7 +127,7 @@ pub(crate) fn end_transaction(words: &mut Words, tick: u32, i: usize)
     stamp(words, tick);
     words[4] = with_bit(words[4], i as u64);
     words[6] = without_bit(words[6], i as u64);
-    put_sets(words, i as u64, [0u64; 4], [0u64; 4]);
+    put_sets(words, i as u64, [0; 4], [0; 4]);
 }
 
 // A plain task's job ends.

@@ -25,10 +25,9 @@ pub fn group_contested(reads: u64, writes: u64, other_reads: u64, other_writes: 
 pub fn lowest_object(words: Groups) -> u8
     ensures { result ≡ lowest_object (groups_at words 0) }
 {
-    for g in 0..4 {
-        let word = words[g];
-        if word != 0 {
-            return (g * 64) as u8 + u64::trailing_zeros(word) as u8;
+    for (g, word) in words.iter().enumerate() {
+        if *word != 0 {
+            return (g * 64) as u8 + word.trailing_zeros() as u8;
         }
     }
     0
@@ -38,10 +37,5 @@ pub fn lowest_object(words: Groups) -> u8
 pub fn how_many(words: Groups) -> u16
     ensures { result ≡ how_many (groups_at words 0) }
 {
-    let mut number: u32 = 0;
-    for group in 0..4 {
-        let word = words[group];
-        number += u64::count_ones(word);
-    }
-    number as u16
+    words.iter().map(|word| word.count_ones()).sum::<u32>() as u16
 }

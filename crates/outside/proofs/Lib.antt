@@ -1,3 +1,4 @@
 -- What the proofs of the functions share.
 pub mod Beginnings
 pub mod Digits
+pub mod Sending

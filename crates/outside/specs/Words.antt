@@ -1,9 +1,7 @@
 -- What a word of a call says.
-use Rattle.std.specs.Prelude.{ℕ, ◌+◌, ◌*◌, ◌-◌, List, [], ◌∷◌, Bool, true, cond, ◌&&◌, eqb, leb}
+use Rattle.std.specs.Prelude.{ℕ, ◌+◌, ◌*◌, ◌-◌, List, [], ◌∷◌, Bool, true, cond, ◌&&◌, eqb, leb, Option, Some, None}
 use Rattle.outside.specs.declared.Word.{Word}
 use Rattle.outside.specs.declared.Word.TheVariants.{Empty, Input, Flag, Name}
-use Rattle.outside.specs.declared.Number.{Number}
-use Rattle.outside.specs.declared.Number.TheVariants.{Is, Not}
 
 -- `-` alone is standard input, and any other word that begins with it a flag
 unfoldable pub word_of : List ℕ → Word
@@ -25,12 +23,12 @@ value before [] = before
 value before (c ∷ more) = value (before * 10 + (c - 48)) more
 
 -- such digits say a number if it is no more than a tick can be
-unfoldable pub number_from : ℕ → List ℕ → Number
+unfoldable pub number_from : ℕ → List ℕ → Option ℕ
 unfolding digits value
-number_from before word = cond (digits word && leb (value before word) 4294967295) (Is (value before word)) Not
+number_from before word = cond (digits word && leb (value before word) 4294967295) (Some (value before word)) None
 
 -- a word says a number if it is digits and nothing else, at least one
-unfoldable pub number_of : List ℕ → Number
+unfoldable pub number_of : List ℕ → Option ℕ
 unfolding number_from
-number_of [] = Not
+number_of [] = None
 number_of (c ∷ more) = number_from 0 (c ∷ more)

@@ -1,125 +1,100 @@
-// Bytes written out, what is said on standard error, and the verdict. Each that says something went wrong answers the verdict that it leads to.
-ghost use Rattle.std.specs.Prelude.{◌≡◌, true, false, ◌+◌, ◌≤◌, length, IfOk};
-ghost use Rattle.outside.specs.World.{Written};
+// Bytes written out, what is said on standard error, and the verdict told. Each that says something went wrong answers the verdict that it leads to.
+ghost use Rattle.std.specs.Prelude.{◌≡◌, false, None, take, IfErr};
+ghost use Rattle.std.specs.Io.{WritesAtMost};
+ghost use Rattle.std.specs.Io.KnownBytes.{Appends, WriteAppends};
+ghost use Rattle.outside.specs.World.{Written, taken_of};
 
 use crate::source::descriptor_path;
 use crate::tries::{again, code_of};
-use crate::{Call, Sent};
+use crate::{Call, Unsent, Verdict};
 use std::fs;
 use std::fs::File;
 use std::io::{Error, Write};
 use std::os::unix::fs::PermissionsExt;
 use std::rt::HostRuntime;
 
-// Writes once, from a place on, and as often as it is worth another try where nothing was taken. The answer is how many bytes the system took, or the error where it failed.
-fn write_some<W: Write>(
-    rt: &HostRuntime,
-    to: &mut W,
-    bytes: &[u8],
-    from: usize,
-) -> Result<usize, Error>
-    requires { from ≤ length bytes.now }
-    ensures { IfOk result (λ taken. from + taken ≤ length bytes.now) }
+// Writes once, and as often as it is worth another try where nothing was taken. The answer is how many bytes the system took, or the error where it failed.
+// `input` has this loop for reads: a public function that took the call as a closure would have to require that it may be called.
+fn write_some<W: Write>(rt: &HostRuntime, to: &mut W, bytes: &[u8]) -> Result<usize, Error>
+    ensures within { WritesAtMost result bytes.now }
+    ensures sent { WriteAppends (W.contents to.old) (W.contents to.new) result bytes.now }
 {
     for _ in 0..u64::MAX {
-        match to.write(&bytes[from..]) {
-            Ok(taken) => return Ok(taken),
-            Err(error) => {
-                if !again(rt, code_of(error)) {
-                    return Err(error);
-                }
-            }
+        match to.write(bytes) {
+            Err(error) if again(rt, code_of(error)) => {}
+            outcome => return outcome,
         }
     }
     Ok(0)
 }
 
 // Writes all of the bytes, or stops at the first write that fails or takes nothing.
-pub fn write_out<W: Write>(rt: &HostRuntime, to: &mut W, bytes: &[u8]) -> Sent
+pub fn write_out<W: Write>(rt: &HostRuntime, to: &mut W, bytes: &[u8]) -> Result<(), Unsent>
     ensures written { Written bytes.now result }
-    ensures error { result.whole ≡ true → result.error ≡ None }
+    ensures sent { Appends (W.contents to.old) (W.contents to.new) (take (taken_of bytes.now result) bytes.now) }
 {
-    let mut done: usize = 0;
-    let mut failed = None;
-    while done < bytes.len() {
-        match write_some(rt, to, bytes, done) {
-            Ok(0) => break,
-            Ok(more) => done += more,
+    let mut taken = 0;
+    while taken < bytes.len() {
+        match write_some(rt, to, &bytes[taken..]) {
+            Ok(0) => return Err(Unsent { taken, error: None }),
+            Ok(more) => taken += more,
             Err(error) => {
-                failed = Some(error);
-                break;
+                return Err(Unsent {
+                    taken,
+                    error: Some(error),
+                });
             }
         }
     }
-    Sent {
-        taken: done,
-        whole: done == bytes.len(),
-        error: failed,
+    Ok(())
+}
+
+// Writes the parts to standard error, one behind the other.
+fn complain(rt: &HostRuntime, parts: &[&[u8]]) {
+    for part in parts {
+        let _ = write_out(rt, &mut rt.stderr(), part);
     }
 }
 
-// Writes the bytes to standard error.
-pub(crate) fn complain(rt: &HostRuntime, bytes: &[u8]) {
-    write_out(rt, &mut rt.stderr(), bytes);
-}
-
-// How many bytes of an error's text stand before its number.
-fn reason_size(text: &str) -> usize {
-    text.find(" (os error ").unwrap_or(text.len())
-}
-
-// Says the system's reason for an error, without its number.
-fn say_reason(rt: &HostRuntime, error: Error) {
-    if let Ok(text) = format!(in rt.alloc(); "{error}") {
-        let bytes = text.as_bytes();
-        let size = reason_size(text.as_str());
-        complain(rt, &bytes[..size.min(bytes.len())]);
-    }
-}
-
-// Says that what is named failed, with the system's reason: `NAME: REASON`.
-pub fn cannot(rt: &HostRuntime, name: &[u8], error: Option<Error>) -> u8
-    ensures { result ≡ 1 }
+// Says on standard error, by parts that stand one behind the other, that a program failed.
+pub fn failed(rt: &HostRuntime, parts: &[&[u8]]) -> Verdict
+    ensures { result ≡ Verdict.Failed }
 {
-    complain(rt, name);
-    complain(rt, b": ");
-    match error {
-        Some(error) => say_reason(rt, error),
-        None => complain(rt, b"nothing was taken"),
-    }
-    complain(rt, b"\n");
-    1
+    complain(rt, parts);
+    Verdict::Failed
+}
+
+// Says that what is named failed, with the system's reason and without its number: `NAME: REASON`.
+pub fn cannot(rt: &HostRuntime, name: &[u8], error: Option<Error>) -> Verdict
+    ensures { result ≡ Verdict.Failed }
+{
+    let Some(error) = error else {
+        return failed(rt, &[name, b": nothing was taken\n"]);
+    };
+    let text = format!(in rt.alloc(); "{error}").unwrap_or(String::new(rt.alloc()));
+    let reason = text.as_str().split(" (os error ").next().unwrap_or("");
+    failed(rt, &[name, b": ", reason.as_bytes(), b"\n"])
 }
 
 // Says that a program was called wrongly: `PROGRAM: WHAT: 'WORD'`, and where the word is empty `PROGRAM: WHAT`.
-pub fn wrong(rt: &HostRuntime, program: &[u8], what: &[u8], word: &[u8]) -> u8
-    ensures { result ≡ 2 }
+pub fn wrong(rt: &HostRuntime, program: &[u8], what: &[u8], word: &[u8]) -> Verdict
+    ensures { result ≡ Verdict.Wrong }
 {
-    complain(rt, program);
-    complain(rt, b": ");
-    complain(rt, what);
-    if word.len() != 0 {
-        complain(rt, b": '");
-        complain(rt, word);
-        complain(rt, b"'");
+    if word.is_empty() {
+        complain(rt, &[program, b": ", what, b"\n"]);
+    } else {
+        complain(rt, &[program, b": ", what, b": '", word, b"'\n"]);
     }
-    complain(rt, b"\n");
-    2
+    Verdict::Wrong
 }
 
 // Writes the bytes up to an end to standard output. A write that fails is said.
-pub fn say(rt: &HostRuntime, bytes: &[u8], end: usize) -> u8
-    ensures { result ≤ 1 }
+pub fn say(rt: &HostRuntime, bytes: &[u8], end: usize) -> Result<(), Verdict>
+    ensures { IfErr result (λ verdict. verdict ≡ Verdict.Failed) }
 {
-    let mut size = end;
-    if bytes.len() < end {
-        size = bytes.len();
-    }
-    let sent = write_out(rt, &mut rt.stdout(), &bytes[..size]);
-    if !sent.whole {
-        return cannot(rt, b"standard output", sent.error);
-    }
-    0
+    let bytes = &bytes[..end.min(bytes.len())];
+    let failed = |unsent: Unsent| cannot(rt, b"standard output", unsent.error);
+    write_out(rt, &mut rt.stdout(), bytes).map_err(failed)
 }
 
 // What the system calls a descriptor that may be written to, by a bit of its link's mode.
@@ -135,16 +110,13 @@ fn open_verdict(rt: &HostRuntime, number: i32) -> Option<File> {
     File::options().append(true).open(rt, path.as_str()).ok()
 }
 
-// Tells the verdict, one digit, to the descriptor that was given for it, and to none where none was. The answer is whether it was told.
+// Tells the verdict, one digit, to the descriptor that was given for it, and to none where none was. The answer is whether it was told. It takes any number, and tells its last digit.
 pub fn tell(rt: &HostRuntime, c: Call, verdict: u8) -> bool
-    ensures { c.given ≡ false → result ≡ false }
+    ensures { c.verdict ≡ None → result ≡ false }
 {
-    if !c.given {
+    let Some(number) = c.verdict else {
         return false;
-    }
-    let digit = [48 + verdict % 10];
-    match open_verdict(rt, c.verdict) {
-        Some(mut to) => write_out(rt, &mut to, &digit).whole,
-        None => false,
-    }
+    };
+    let digit = [b'0' + verdict % 10];
+    open_verdict(rt, number).is_some_and(|mut to| write_out(rt, &mut to, &digit).is_ok())
 }

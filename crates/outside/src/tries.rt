@@ -12,23 +12,15 @@ const EINTR: i32 = 4;
 
 const EAGAIN: i32 = 11;
 
-// Lets a millisecond pass.
-fn rest(rt: &HostRuntime) {
-    rt.sleep(Duration::from_millis(1));
-}
-
-// Whether a call that failed with this error is tried again: it was interrupted, or would have had to wait. In the second case there is a rest first, so that a program that waits for its reader keeps no processor busy.
+// Whether a call that failed with this error is tried again: it was interrupted, or would have had to wait. In the second case there is a rest of a millisecond first, so that a
+// program that waits for its reader keeps no processor busy.
 pub fn again(rt: &HostRuntime, error: i32) -> bool
     ensures { result ≡ passing error }
 {
-    if error == EINTR {
-        return true;
-    }
     if error == EAGAIN {
-        rest(rt);
-        return true;
+        rt.sleep(Duration::from_millis(1));
     }
-    false
+    error == EINTR || error == EAGAIN
 }
 
 // The system's number of an error, and 0 for one that is not the system's.

@@ -1,46 +1,40 @@
 // What a word of a call says.
-ghost use Rattle.std.specs.Prelude.{◌≡◌};
+ghost use Rattle.std.specs.Prelude.{◌≡◌, ◌+◌, ◌*◌, ◌^◌, ◌<◌, SomeIff};
 ghost use Rattle.outside.specs.Words.{word_of, number_of};
 
-use crate::{Number, Word};
+use crate::Word;
 
 // What a word is, by its first bytes.
+#[tactic(auto, unfolding(crate::specs::Words::word_of))]
 pub fn word_of(word: &[u8]) -> Word
     ensures { result ≡ word_of word.now }
 {
-    if word.len() == 0 {
-        return Word::Empty;
+    match word {
+        [] => Word::Empty,
+        [b'-'] => Word::Input,
+        [b'-', ..] => Word::Flag,
+        _ => Word::Name,
     }
-    if word[0] != b'-' {
-        return Word::Name;
-    }
-    if word.len() == 1 {
-        return Word::Input;
-    }
-    Word::Flag
+}
+
+// A number with one more digit behind it, up to 4,294,967,295.
+fn with_digit(value: u32, digit: u32) -> Option<u32>
+    ensures { SomeIff result (value * 10 + digit < 2 ^ 32) (value * 10 + digit) }
+{
+    value.checked_mul(10)?.checked_add(digit)
 }
 
 // The number that a word of decimal digits says, up to 4,294,967,295.
-pub fn number_of(word: &[u8]) -> Number
+pub fn number_of(word: &[u8]) -> Option<u32>
     ensures { result ≡ number_of word.now }
 {
-    let end = word.len();
-    if end == 0 {
-        return Number::Not;
+    if word.is_empty() {
+        return None;
     }
-    let mut value: u64 = 0;
-    for i in 0..end {
-        let byte = word[i];
-        if byte < 48 {
-            return Number::Not;
-        }
-        if 57 < byte {
-            return Number::Not;
-        }
-        value = value * 10 + (byte - 48) as u64;
-        if 4294967295 < value {
-            return Number::Not;
-        }
+    let mut value: u32 = 0;
+    for &byte in word {
+        let digit = (byte as char).to_digit(10)?;
+        value = with_digit(value, digit)?;
     }
-    Number::Is(value as u32)
+    Some(value)
 }

@@ -12,10 +12,7 @@ fn ranks_above(words: &Words, i: usize, j: usize) -> bool
 {
     let mine = words[1160 + i];
     let other = words[1160 + j];
-    if other == mine {
-        return j < i;
-    }
-    other < mine
+    other < mine || other == mine && j < i
 }
 
 // A task's job has a new rank: one pass over the tasks, in which each has the task above it or is above it.
@@ -23,11 +20,9 @@ pub fn put_in_rank(words: &mut Words, task: u64)
     ensures { words.new ≡ ranks_moved words.old (task % 64) }
 {
     let i = (task % 64) as usize;
-    let mut end: usize = 64;
-    if words[1] < 64 {
-        end = words[1] as usize;
-    }
-    let mut above: u64 = 0;
+    let end = words[1].min(64) as usize;
+    let mut above = 0;
+    // Each turn writes a word of those that it reads, so no iterator can hold them.
     for j in 0..end {
         if ranks_above(words, i, j) {
             above = with_bit(above, j as u64);

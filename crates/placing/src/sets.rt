@@ -9,14 +9,7 @@ use objects::Groups;
 pub fn put_sets(words: &mut Words, task: u64, reads: Groups, writes: Groups)
     ensures { words.new ≡ sets_put words.old (task % 64) reads writes }
 {
-    let i = (task % 64) as usize;
-    let base = 648 + i * 8;
-    words[base] = reads[0];
-    words[base + 1] = reads[1];
-    words[base + 2] = reads[2];
-    words[base + 3] = reads[3];
-    words[base + 4] = writes[0];
-    words[base + 5] = writes[1];
-    words[base + 6] = writes[2];
-    words[base + 7] = writes[3];
+    let base = 648 + (task % 64) as usize * 8;
+    words[base..base + 4].copy_from_slice(&reads);
+    words[base + 4..base + 8].copy_from_slice(&writes);
 }

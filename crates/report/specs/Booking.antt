@@ -1,6 +1,6 @@
 -- The two calls: what opening a session and booking an event make of a tally, and what they answer. For any tally, any row and any session, one put together by
 -- anyone too.
-use Rattle.std.specs.Prelude.{ℕ, zero, suc, ◌-◌, List, [], ◌∷◌, ◌++◌, Bool, true, false, cond, not, ◌&&◌, eqb, get_or, set, replicate}
+use Rattle.std.specs.Prelude.{ℕ, zero, suc, ◌-◌, List, [], ◌∷◌, ◌++◌, Bool, true, false, cond, not, ◌&&◌, eqb, get_or, set, replicate, Ok, Err}
 use Rattle.rules.specs.declared.Setup.{Setup}
 use Rattle.rules.specs.declared.State.{State}
 use Rattle.rules.specs.declared.State.TheVariants.{Absent, Plain, Waiting, Executing}
@@ -12,6 +12,7 @@ use Rattle.rules.specs.declared.Admission.{Admission}
 use Rattle.rules.specs.declared.Admissions.{Admissions}
 use Rattle.rules.specs.declared.Answer.{Answer}
 use Rattle.rules.specs.Answers.{is_wait, number}
+use Rattle.rules.specs.Refusals.{refusal_of}
 use Rattle.rules.specs.Ranking.{by_rank}
 use Rattle.rules.specs.Tasks.{no_terms, no_task}
 use Rattle.rules.specs.Setup.{setup_number, same_setup, fresh, no_session}
@@ -46,13 +47,13 @@ opened s = record { session = s; waited = replicate 64 false }
 
 -- a refused opening leaves the tally as it was, and gives what stands in the place of a session
 unfoldable pub opening : Tally → Setup → WithOpened
-unfolding open_number fresh no_session
+unfolding refusal_of open_number fresh no_session
 opening t u =
     let opens : WithOpened = record {
       tally = record { taken = true; setup = u; figures = t.figures };
-      opened = record { number = 0; after = opened (fresh u) };
+      opened = record { verdict = Ok tt; after = opened (fresh u) };
     } in
-    let refuses : WithOpened = record { tally = t; opened = record { number = open_number t u; after = opened no_session } } in
+    let refuses : WithOpened = record { tally = t; opened = record { verdict = Err (refusal_of (open_number t u)); after = opened no_session } } in
     cond (eqb (open_number t u) 0) opens refuses
 
 -- ---- booking an event

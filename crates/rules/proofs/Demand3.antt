@@ -15,7 +15,7 @@ use Rattle.objects.proofs.Laws.Clash.{clash_plain}
 use Rattle.rules.specs.declared.Wait.{Wait}
 use Rattle.rules.specs.declared.State.{State}
 use Rattle.rules.specs.declared.State.TheVariants.{Absent, Plain, Waiting, Executing}
-use Rattle.rules.specs.declared.Arrival.TheVariants.{At}
+use Rattle.std.specs.Prelude.{Some}
 use Rattle.rules.specs.declared.Terms.{Terms}
 use Rattle.rules.specs.declared.Task.{Task}
 use Rattle.rules.specs.declared.Session.{Session}
@@ -29,7 +29,7 @@ use Rattle.rules.specs.Tasks.{is_absent, is_waiting, is_executing, allowed, know
 use Rattle.rules.specs.Room.{ran}
 use Rattle.rules.specs.Events.{raised_state, raised_task, step}
 use Rattle.rules.specs.Scan.{no_admission, admission}
-use Rattle.rules.specs.Sum.{share, bound, summed}
+use Rattle.rules.specs.Sum.{share, bound, summed, sum_number, sum_of}
 use Rattle.rules.specs.Reachable.{Sound}
 use Rattle.rules.specs.History.{Call, heard, commits, wait_length, during, passes, passed, reruns, retried}
 use Rattle.rules.specs.Demand3.{Run, begun, called, SameSets, FreshStarts, RunSound, ClashesFit, commits_in, OnceRunning, HeldBack, Counted, WaitsCounted, AdmittedCounted, Bounded, AdmittedWithin, RunningApart, AsTold, present_at, JobStays, RankStays, RankedAsSaid, RankFits}
@@ -215,7 +215,7 @@ bounded rank strict stays start s calls begins run i l = go (sound_known rank s 
         le_trans (p.total i l)
         (sum_mono s.n (λ j. cond (eqb j i) 0 (commits_of j i calls)) (λ j. cond (eqb j i) 0 (share length (task_at s j).terms)) each)
 
-    go : known s i ≡ true → ((summed s i length).number ≡ 0) × (passed i calls ≤ (summed s i length).sum)
+    go : known s i ≡ true → (sum_number (summed s i length) ≡ 0) × (passed i calls ≤ sum_of (summed s i length))
     go k = rw k (refl, at_most)
 
 -- one that is admitted is a task of the session
@@ -265,7 +265,7 @@ ranked_as_said rank strict stays start s calls begins run i j a b li lj here the
     sound = run_sound rank strict stays start s calls begins run
 
     -- its rank is that of its last arrival
-    ranks : (i a : ℕ) → i < s.n → present_at s i ≡ true → (task_at s i).arrival ≡ At a → Ranked s.mode (task_at s i) a
+    ranks : (i a : ℕ) → i < s.n → present_at s i ≡ true → (task_at s i).arrival ≡ Some a → Ranked s.mode (task_at s i) a
     ranks i a l here at_a =
         let job = sound.present i l (not-true (is_absent (state_at s i)) here) in
         rw (same_tick job.0 a (sym job.1 ∙ at_a)) job.2

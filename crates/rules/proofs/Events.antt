@@ -14,7 +14,7 @@ use Rattle.objects.specs.Objects.{groups_at}
 use Rattle.objects.proofs.Laws.Below.{not_both}
 use Rattle.rules.specs.declared.State.{State}
 use Rattle.rules.specs.declared.State.TheVariants.{Absent, Plain, Waiting, Executing}
-use Rattle.rules.specs.declared.Arrival.TheVariants.{At}
+use Rattle.std.specs.Prelude.{Some}
 use Rattle.rules.specs.declared.Session.{Session}
 use Rattle.rules.specs.declared.Answer.{Answer}
 use Rattle.rules.specs.Ranking.{Ranking, Strict, Stays}
@@ -51,7 +51,7 @@ executing_is Plain e = absurd (false≢true e)
 executing_is (Waiting w) e = absurd (false≢true e)
 executing_is Executing e = refl
 
-pub same_tick : (tick a : ℕ) → At tick ≡ At a → a ≡ tick
+pub same_tick : (tick a : ℕ) → Some tick ≡ Some a → a ≡ tick
 same_tick tick a e = cc
 
 module _ (rank : Ranking) (strict : Strict rank) (stays : Stays rank) (s : Session) (sound : Sound rank s) (tick i : ℕ) where
@@ -60,7 +60,7 @@ module _ (rank : Ranking) (strict : Strict rank) (stays : Stays rank) (s : Sessi
   empty_before l w x g lg = sound.emptied i g (lt_of_lt_of_le l sound.n_high) lg w x
 
   -- a last arrival before is at most this tick
-  arrival_before : i < s.n → s.tick ≤ tick → (a : ℕ) → (task_at s i).arrival ≡ At a → a ≤ tick
+  arrival_before : i < s.n → s.tick ≤ tick → (a : ℕ) → (task_at s i).arrival ≡ Some a → a ≤ tick
   arrival_before l h a e = le_trans (sound.arrivals i a l e) h
 
   -- ---- arrive

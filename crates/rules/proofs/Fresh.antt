@@ -10,7 +10,7 @@ use lib.ListN.{length, get_or, set, length-set, length-replicate, get_or-replica
 use lib.Seq.{get_or-set_same, get_or-set_other}
 use borrow.Author.Tests.{eqb-true, eqb-false, leb-true}
 use Rattle.objects.proofs.Laws.Below.{below_suc, not_both, count_none}
-use Rattle.rules.specs.declared.Arrival.TheVariants.{Never, At}
+use Rattle.std.specs.Prelude.{None, Some}
 use Rattle.rules.specs.declared.Terms.{Terms}
 use Rattle.rules.specs.declared.Setup.{Setup}
 use Rattle.rules.specs.declared.Task.{Task}
@@ -98,7 +98,7 @@ module _ (rank : Ranking) (u : Setup) (good : setup_number u ≡ 0) where
   not_executing : (i : ℕ) → i < u.n → executing (fresh u) i ≡ false
   not_executing i l = ap (λ (t : Task). is_executing t.state) (fresh_task_lem i l)
 
-  never_at : (a : ℕ) → Never ≡ At a → ⊥
+  never_at : (a : ℕ) → None ≡ Some a → ⊥
   never_at a e = let z : ◌≡◌ {A = ℕ} 0 1 = cc in omega arith
 
   fresh_is_sound : Sound rank (fresh u)

@@ -11,8 +11,7 @@ use Rattle.objects.specs.Below.{one}
 use Rattle.rules.specs.declared.Terms.{Terms}
 use Rattle.rules.specs.declared.State.{State}
 use Rattle.rules.specs.declared.State.TheVariants.{Absent, Plain, Waiting, Executing}
-use Rattle.rules.specs.declared.Arrival.{Arrival}
-use Rattle.rules.specs.declared.Arrival.TheVariants.{At}
+use Rattle.std.specs.Prelude.{Option, Some}
 use Rattle.rules.specs.declared.Task.{Task}
 use Rattle.rules.specs.declared.Event.{Event}
 use Rattle.rules.specs.declared.Said.{Said}
@@ -33,7 +32,7 @@ allowance t = cond (is_absent t.state) t.terms.transactions t.releases
 -- with C commits and A arrivals since tick b
 pub record Live (t : Task) (C A b : ℕ) : Type 0 where
   pub jobs : C + busy t.state ≤ t.terms.transactions * A + allowance t
-  pub spaced : (A ≡ 0) ⊎ ((a : ℕ) × (t.arrival ≡ At a) × (b + A * t.terms.period ≤ a + t.terms.period))
+  pub spaced : (A ≡ 0) ⊎ ((a : ℕ) × (t.arrival ≡ Some a) × (b + A * t.terms.period ≤ a + t.terms.period))
 
 -- at its end, over a length
 abbrev pub Limited : Terms → ℕ → ℕ → ℕ → Type 0
@@ -56,8 +55,8 @@ one_more : (n a : ℕ) → n * (a + 1) ≡ n * a + n
 one_more n a = mul-add n a 1 ∙ ap (λ (k : ℕ). n * a + k) (mul-one n)
 
 -- an arrival that is not early comes a period after the last
-next_spaced : (arrival : Arrival) (period tick A b : ℕ) → early arrival period tick ≡ false → b ≤ tick
-    → (A ≡ 0) ⊎ ((a : ℕ) × (arrival ≡ At a) × (b + A * period ≤ a + period)) → b + (A + 1) * period ≤ tick + period
+next_spaced : (arrival : Option ℕ) (period tick A b : ℕ) → early arrival period tick ≡ false → b ≤ tick
+    → (A ≡ 0) ⊎ ((a : ℕ) × (arrival ≡ Some a) × (b + A * period ≤ a + period)) → b + (A + 1) * period ≤ tick + period
 next_spaced arrival period tick A b late since (inl z) =
     omega (arith, add-mul A 1 period, one-mul period, ap (λ (k : ℕ). k * period) z, zero-mul period)
 next_spaced arrival period tick A b late since (inr x) =
@@ -65,7 +64,7 @@ next_spaced arrival period tick A b late since (inr x) =
       arith,
       add-mul A 1 period,
       one-mul period,
-      ltb-false tick (x.0 + period) (ap (λ (y : Arrival). early y period tick) (sym x.1) ∙ late),
+      ltb-false tick (x.0 + period) (ap (λ (y : Option ℕ). early y period tick) (sym x.1) ∙ late),
       x.2,
     )
 
@@ -180,7 +179,7 @@ own_job t e said u (finishes kind was) here still = absurd (true≢false still)
 -- ---- at its end
 
 -- over the ticks from b to the last
-pub live_limited : (t : Task) (C A b tick : ℕ) → Live t C A b → t.releases ≤ t.terms.transactions → ((a : ℕ) → t.arrival ≡ At a → a ≤ tick)
+pub live_limited : (t : Task) (C A b tick : ℕ) → Live t C A b → t.releases ≤ t.terms.transactions → ((a : ℕ) → t.arrival ≡ Some a → a ≤ tick)
     → Limited t.terms C A (tick - b)
 live_limited t C A b tick live few before = (omega (arith, live.jobs, one_more t.terms.transactions A, allowed), spaced live.spaced)
   where
@@ -191,7 +190,7 @@ live_limited t C A b tick live few before = (omega (arith, live.jobs, one_more t
         go true = le_of_eq refl
         go false = few
 
-    spaced : (A ≡ 0) ⊎ ((a : ℕ) × (t.arrival ≡ At a) × (b + A * t.terms.period ≤ a + t.terms.period))
+    spaced : (A ≡ 0) ⊎ ((a : ℕ) × (t.arrival ≡ Some a) × (b + A * t.terms.period ≤ a + t.terms.period))
         → A * t.terms.period ≤ tick - b + t.terms.period
     spaced (inl z) = omega (arith, ap (λ (k : ℕ). k * t.terms.period) z, zero-mul t.terms.period)
     spaced (inr x) = omega (arith, x.2, before x.0 x.1)

@@ -13,6 +13,7 @@ pub mod InOrder
 pub mod Steps
 pub mod Rows
 pub mod Numbers
+pub mod Refusals
 pub mod Alike
 pub mod Almost
 pub mod Change

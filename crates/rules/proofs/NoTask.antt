@@ -1,5 +1,6 @@
 -- Where there is no such task: number 1 before all others, and sum 0. What stands in the place of a session has no task at all; one task alone has no other.
 use Prim.Native.Nat.{ℕ, ◌≤◌, ◌<◌, zero-le}
+use Rattle.std.specs.Prelude.{Ok, Err}
 use mathlib.Core.Path.{◌≡◌, refl, ap, ◌∙◌}
 use mathlib.Core.Logic.{◌⊎◌, inl, inr}
 use mathlib.Core.List.{List}
@@ -11,16 +12,16 @@ use borrow.Author.Tests.{le-ltb, eq-eqb}
 use Rattle.objects.proofs.Laws.Below.{below_or_from, sum_zero}
 use Rattle.rules.specs.declared.Task.{Task}
 use Rattle.rules.specs.declared.Session.{Session}
-use Rattle.rules.specs.declared.Said.TheVariants.{Ok, No}
+use Rattle.rules.specs.declared.Said.TheVariants as said
 use Rattle.rules.specs.declared.Answer.{Answer}
 use Rattle.rules.specs.declared.Started.{Started}
-use Rattle.rules.specs.declared.Summed.{Summed}
+use Rattle.rules.specs.declared.Refusal.TheVariants.{UnknownTask}
 use Rattle.rules.specs.Answers.{number}
 use Rattle.rules.specs.Ranking.{Ranking}
 use Rattle.rules.specs.Tasks.{allowed, known, no_task, task_at}
 use Rattle.rules.specs.Setup.{setup_number, fresh, no_session, start, NoSession, NoSessionPlain, RefusedStart}
 use Rattle.rules.specs.Events.{trying, arrive_number, release_number, commit_number, finish_number, refused, arrive, release, commit, finish}
-use Rattle.rules.specs.Sum.{share, bound, summed, BadTaskSum, AloneSum}
+use Rattle.rules.specs.Sum.{share, bound, summed, sum_of, BadTaskSum, AloneSum}
 use Rattle.rules.specs.Reachable.{RefusedBy1, BadTask, NoSessionAnswers}
 use Rattle.rules.proofs.Laws.Rows.{filled_with}
 use Rattle.rules.proofs.Laws.Steps.{step_cases}
@@ -64,7 +65,7 @@ bad_task rank s e l =
 
 pub bad_task_sum : BadTaskSum
 unfolding summed
-bad_task_sum s i length l = rw (unknown s i l) (refl, refl)
+bad_task_sum s i length l = rw (unknown s i l) (refl, refl, refl)
 
 -- one task alone has no other
 alone_bound : (s : Session) (i length : ℕ) → s.n ≡ 1 → i < s.n → bound s i length ≡ 0
@@ -77,13 +78,13 @@ pub alone_sum : AloneSum
 unfolding summed
 alone_sum s i length one = go (below_or_from i s.n)
   where
-    either : bound s i length ≡ 0 → (b : Bool) → (cond {A = Summed} b (record { number = 0; sum = bound s i length }) (record { number = 1; sum = 0 })).sum ≡ 0
+    either : bound s i length ≡ 0 → (b : Bool) → sum_of (cond b (Ok (bound s i length)) (Err UnknownTask)) ≡ 0
     either z true = z
     either z false = refl
 
-    go : (i < s.n) ⊎ (s.n ≤ i) → (summed s i length).sum ≡ 0
+    go : (i < s.n) ⊎ (s.n ≤ i) → sum_of (summed s i length) ≡ 0
     go (inl l) = either (alone_bound s i length one l) (known s i)
-    go (inr l) = (bad_task_sum s i length l).1
+    go (inr l) = (bad_task_sum s i length l).2
 
 -- ---- what a refused setup gives
 
@@ -96,7 +97,7 @@ unfolding start
 refused_start u given = go (eqb (setup_number u) 0) given
   where
     answer : Bool → Started
-    answer b = cond b (record { said = Ok; session = fresh u }) (record { said = No (setup_number u); session = no_session })
+    answer b = cond b (record { said = said.Ok; session = fresh u }) (record { said = said.No (setup_number u); session = no_session })
 
     go : (b : Bool) → 1 ≤ number (answer b).said → NoSession (answer b).session
     go true l = absurd (omega arith)

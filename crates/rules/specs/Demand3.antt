@@ -2,14 +2,13 @@
 -- its retry count is the number of clashing transactions that committed while it waited, and is at most the sum.' Request 2: 'Demand 3 speaks of the clash count
 -- from now on, and adds that retries never exceed it.' The statements, over any strict ranking that stays while a job is present, any start and any list of calls,
 -- refused ones included. History has what they say of the calls; the proofs are in proofs/Demand3.antt.
-use Rattle.std.specs.Prelude.{ℕ, ◌+◌, ◌≤◌, ◌<◌, ◌≡◌, ◌⊎◌, ◌≢◌, ◌↔◌, List, [], ◌∷◌, Bool, true, false, not, ◌||◌, get_or}
+use Rattle.std.specs.Prelude.{ℕ, ◌+◌, ◌≤◌, ◌<◌, ◌≡◌, ◌⊎◌, ◌≢◌, ◌↔◌, List, [], ◌∷◌, Bool, true, false, not, ◌||◌, get_or, Some}
 use Rattle.objects.specs.Below.{count}
 use Rattle.objects.specs.Objects.{Sets, Clash}
 use Rattle.rules.specs.declared.Setup.{Setup}
 use Rattle.rules.specs.declared.Wait.{Wait}
 use Rattle.rules.specs.declared.State.{State}
 use Rattle.rules.specs.declared.State.TheVariants.{Absent, Plain, Waiting, Executing}
-use Rattle.rules.specs.declared.Arrival.TheVariants.{At}
 use Rattle.rules.specs.declared.Session.{Session}
 use Rattle.rules.specs.declared.Event.{Event}
 use Rattle.rules.specs.declared.Answer.{Answer}
@@ -20,7 +19,7 @@ use Rattle.rules.specs.Room.{rank_at, room}
 use Rattle.rules.specs.Contest.{Blocked}
 use Rattle.rules.specs.Scan.{no_admission}
 use Rattle.rules.specs.Events.{step}
-use Rattle.rules.specs.Sum.{summed}
+use Rattle.rules.specs.Sum.{summed, sum_number, sum_of}
 use Rattle.rules.specs.Reachable.{Sound}
 use Rattle.rules.specs.History.{Call, heard, commits, Stage, absent, plain, waits, executes, stage, transaction, released, began, lasted, admitted_at, wait_length, passed, last_arrival, ranked, retried}
 
@@ -112,7 +111,7 @@ abbrev pub Within : Session → List Call → Type 0
 Within s calls =
     (i : ℕ) → i < s.n
     → let answer = summed s i (wait_length i calls) in
-    (answer.number ≡ 0) × (passed i calls ≤ answer.sum)
+    (sum_number answer ≡ 0) × (passed i calls ≤ sum_of answer)
 
 abbrev pub Bounded : Type 0
 Bounded = InEveryRun (λ rank start s calls. Within s calls)
@@ -123,7 +122,7 @@ AdmissionsWithin e answer calls =
     (k : ℕ) → k < answer.admitted.count
     → let a = get_or answer.admitted.list k no_admission in
     let sum = summed answer.session a.task (wait_length a.task (heard e answer ∷ calls)) in
-    (sum.number ≡ 0) × (a.clashes ≤ sum.sum)
+    (sum_number sum ≡ 0) × (a.clashes ≤ sum_of sum)
 
 abbrev pub AdmittedWithin : Type 0
 AdmittedWithin = InEveryRun (λ rank start s calls. (e : Event) → AdmissionsWithin e (step rank s e) calls)
@@ -181,7 +180,7 @@ RankStays = InEveryRun (λ rank start s calls. (e : Event) → JobStays s (step 
 -- Of two present jobs, with the ticks of their last arrivals, one ranks above the other where the mode's own wording says so.
 abbrev pub RanksAsSaid : Session → Type 0
 RanksAsSaid s =
-    (i j a b : ℕ) → i < s.n → j < s.n → present_at s i ≡ true → present_at s j ≡ true → (task_at s i).arrival ≡ At a → (task_at s j).arrival ≡ At b
+    (i j a b : ℕ) → i < s.n → j < s.n → present_at s i ≡ true → present_at s j ≡ true → (task_at s i).arrival ≡ Some a → (task_at s j).arrival ≡ Some b
     → (task_at s i).terms.priority ≤ 65535 → (task_at s j).terms.priority ≤ 65535
     → let t = (task_at s i).terms in
     let u = (task_at s j).terms in

@@ -1,10 +1,8 @@
 -- The four events: the number that refuses one, and the answer with the session after it.
-use Rattle.std.specs.Prelude.{ℕ, zero, suc, ◌+◌, min, List, [], ◌∷◌, Bool, false, cond, ◌&&◌, eqb, leb, ltb, set, replicate}
+use Rattle.std.specs.Prelude.{ℕ, zero, suc, ◌+◌, min, List, [], ◌∷◌, Bool, false, cond, ◌&&◌, eqb, leb, ltb, set, replicate, Option, None, Some}
 use Rattle.objects.specs.Objects.{Sets, clash}
 use Rattle.rules.specs.declared.State.{State}
 use Rattle.rules.specs.declared.State.TheVariants.{Absent, Plain, Waiting, Executing}
-use Rattle.rules.specs.declared.Arrival.{Arrival}
-use Rattle.rules.specs.declared.Arrival.TheVariants.{Never, At}
 use Rattle.rules.specs.declared.Task.{Task}
 use Rattle.rules.specs.declared.Session.{Session}
 use Rattle.rules.specs.declared.Kind.TheVariants.{Arrive, Release, Commit, Finish}
@@ -25,9 +23,9 @@ abbrev pub trying : Session → ℕ → ℕ → ℕ → ℕ
 trying s tick i rest = cond (known s i) (cond (ltb tick s.tick) 2 (cond (leb 1000000 s.accepted) 3 rest)) 1
 
 -- '5: arrive less than one period after the last arrival (first arrival is free)'
-abbrev pub early : Arrival → ℕ → ℕ → Bool
-early Never period tick = false
-early (At last) period tick = ltb tick (last + period)
+abbrev pub early : Option ℕ → ℕ → ℕ → Bool
+early None period tick = false
+early (Some last) period tick = ltb tick (last + period)
 
 -- '4: wrong state: arrive not absent'
 unfoldable pub arrive_number : Session → ℕ → ℕ → ℕ
@@ -68,7 +66,7 @@ scanning rank said s = record { said = said; admitted = (scan rank s).admitted; 
 
 -- 'arrive: absent becomes plain, releases 0, last arrival set.' Request 5: 'The rank becomes part of a present job's record.' It is set here.
 abbrev pub arrived : ℕ → Task → ℕ → Task
-arrived mode t tick = record { terms = t.terms; state = Plain; arrival = At tick; releases = 0; rank = job_rank mode t.terms tick }
+arrived mode t tick = record { terms = t.terms; state = Plain; arrival = Some tick; releases = 0; rank = job_rank mode t.terms tick }
 
 unfoldable pub arrive : Session → ℕ → ℕ → Answer
 unfolding arrive_number job_rank

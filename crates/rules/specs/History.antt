@@ -1,11 +1,9 @@
 -- History: what the list of calls and their answers says, and nothing else. A call holds no session and no count, so nothing here can be a stored count under another
 -- name; nor does the start of a run, in which every task is absent. Lists of calls have the latest first.
-use Rattle.std.specs.Prelude.{ℕ, ◌+◌, ◌-◌, List, [], ◌∷◌, Bool, true, false, cond, not, ◌&&◌, ◌||◌, eqb, ltb}
+use Rattle.std.specs.Prelude.{ℕ, ◌+◌, ◌-◌, List, [], ◌∷◌, Bool, true, false, cond, not, ◌&&◌, ◌||◌, eqb, ltb, Option, Some}
 use Rattle.objects.specs.Below.{one, count}
 use Rattle.objects.specs.Objects.{Sets, clash, nothing}
 use Rattle.rules.specs.declared.State.TheVariants.{Plain}
-use Rattle.rules.specs.declared.Arrival.{Arrival}
-use Rattle.rules.specs.declared.Arrival.TheVariants.{At}
 use Rattle.rules.specs.declared.Session.{Session}
 use Rattle.rules.specs.declared.Kind.{Kind}
 use Rattle.rules.specs.declared.Kind.TheVariants.{Arrive, Release, Commit, Finish}
@@ -189,9 +187,9 @@ passed i calls = during (passes i) i calls
 -- ---- at which of those it ran, in a run from this start, which has m, n, the mode, the terms and the arrivals before it
 
 -- 'its last arrival, if any'
-unfoldable pub last_arrival : Session → ℕ → List Call → Arrival
+unfoldable pub last_arrival : Session → ℕ → List Call → Option ℕ
 last_arrival start i [] = (task_at start i).arrival
-last_arrival start i (c ∷ before) = cond (arrives c i) (At c.event.tick) (last_arrival start i before)
+last_arrival start i (c ∷ before) = cond (arrives c i) (Some c.event.tick) (last_arrival start i before)
 
 -- the rank of its present job, which its arrival gave it: none before it arrives, and none after it finishes
 unfoldable pub ranked : Session → ℕ → List Call → ℕ

@@ -1,5 +1,6 @@
 -- Document 01 as definitions, from simple to whole. Above each stands the sentence that it is.
 pub mod Answers
+pub mod Refusals
 pub mod Ranking
 pub mod Tasks
 pub mod Setup

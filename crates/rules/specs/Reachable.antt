@@ -1,10 +1,10 @@
 -- What holds of every session that a setup and events lead to: one record, which the fresh session has and every event keeps. Demand3 says it of every run. And what holds
 -- of every answer, on any session at all: what a refused and an accepted event change, how many are admitted, what is said of a wait.
-use Rattle.std.specs.Prelude.{ℕ, ◌+◌, ◌*◌, ◌≤◌, ◌<◌, ◌≡◌, ◌⊎◌, ◌≢◌, true, false, length, get_or}
+use Rattle.std.specs.Prelude.{ℕ, ◌+◌, ◌*◌, ◌≤◌, ◌<◌, ◌≡◌, ◌⊎◌, ◌≢◌, Err, true, false, length, get_or, Some}
+use Rattle.rules.specs.declared.Refusal.TheVariants.{UnknownTask}
 use Rattle.objects.specs.Below.{count, Lowest, SoMany}
 use Rattle.objects.specs.Objects.{Sets, clash}
 use Rattle.rules.specs.declared.Setup.{Setup}
-use Rattle.rules.specs.declared.Arrival.TheVariants.{At}
 use Rattle.rules.specs.declared.Task.{Task}
 use Rattle.rules.specs.declared.Session.{Session}
 use Rattle.rules.specs.declared.Event.{Event}
@@ -18,7 +18,7 @@ use Rattle.rules.specs.Setup.{setup_number, fresh, start, terms_number}
 use Rattle.rules.specs.Room.{room}
 use Rattle.rules.specs.Contest.{blocked, lowest_contested, contested_count, ContestedOn, HighestClashing}
 use Rattle.rules.specs.Events.{step}
-use Rattle.rules.specs.Sum.{summed}
+use Rattle.rules.specs.Sum.{summed, sum_number, sum_of}
 
 -- ---- the record
 
@@ -28,7 +28,7 @@ EmptyAt s i g = (get_or s.reads (i * 4 + g) 0 ≡ 0) × (get_or s.writes (i * 4 
 
 -- a present job's record: it has arrived, and it has the rank that it got then
 abbrev pub Job : ℕ → Task → Type 0
-Job mode t = (a : ℕ) × (t.arrival ≡ At a) × Ranked mode t a
+Job mode t = (a : ℕ) × (t.arrival ≡ Some a) × Ranked mode t a
 
 pub record Sound (rank : Ranking) (s : Session) : Type 0 where
   -- the tables' sizes
@@ -49,7 +49,7 @@ pub record Sound (rank : Ranking) (s : Session) : Type 0 where
   -- releases are at most what the task allows; a clash count is at most the accepted events; a last arrival is at most the last tick
   pub releases : (i : ℕ) → i < s.n → (task_at s i).releases ≤ (task_at s i).terms.transactions
   pub clashes : (i : ℕ) → i < s.n → (wait_of (state_at s i)).clashes ≤ s.accepted
-  pub arrivals : (i a : ℕ) → i < s.n → (task_at s i).arrival ≡ At a → a ≤ s.tick
+  pub arrivals : (i a : ℕ) → i < s.n → (task_at s i).arrival ≡ Some a → a ≤ s.tick
   pub accepted : s.accepted ≤ 1000000
   -- a present job has its rank
   pub present : (i : ℕ) → i < s.n → is_absent (state_at s i) ≡ false → Job s.mode (task_at s i)
@@ -117,4 +117,4 @@ NoSessionAnswers =
     (u : Setup) → 1 ≤ number (start u).said
     → let s = (start u).session in
     ((rank : Ranking) (e : Event) → RefusedBy1 s (step rank s e))
-    × ((i length : ℕ) → ((summed s i length).number ≡ 1) × ((summed s i length).sum ≡ 0))
+    × ((i length : ℕ) → (summed s i length ≡ Err UnknownTask) × (sum_number (summed s i length) ≡ 1) × (sum_of (summed s i length) ≡ 0))

@@ -1,11 +1,10 @@
 -- A session's tasks and their sets: read, and replaced.
-use Rattle.std.specs.Prelude.{ℕ, ◌+◌, ◌*◌, List, Bool, true, false, ◌&&◌, leb, ltb, get_or, set}
+use Rattle.std.specs.Prelude.{ℕ, ◌+◌, ◌*◌, List, Bool, true, false, ◌&&◌, leb, ltb, get_or, set, None}
 use Rattle.objects.specs.Objects.{Sets, groups_at}
 use Rattle.rules.specs.declared.Terms.{Terms}
 use Rattle.rules.specs.declared.Wait.{Wait}
 use Rattle.rules.specs.declared.State.{State}
 use Rattle.rules.specs.declared.State.TheVariants.{Absent, Plain, Waiting, Executing}
-use Rattle.rules.specs.declared.Arrival.TheVariants.{Never}
 use Rattle.rules.specs.declared.Task.{Task}
 use Rattle.rules.specs.declared.Session.{Session}
 
@@ -48,7 +47,7 @@ wait_of Executing = no_wait
 
 -- 'A fresh session has every task absent with no arrival': a task at these terms.
 abbrev pub fresh_task : Terms → Task
-fresh_task terms = record { terms = terms; state = Absent; arrival = Never; releases = 0; rank = 0 }
+fresh_task terms = record { terms = terms; state = Absent; arrival = None; releases = 0; rank = 0 }
 
 -- the terms of a task that a setup does not name
 abbrev pub no_terms : Terms

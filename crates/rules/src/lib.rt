@@ -1,8 +1,72 @@
-// The values that the rules speak of. What happens to them is in specs/; there is no function here.
+// The values that the rules speak of. What happens to them is in specs/; the one function here gives a refusal its number.
 #![tactic(auto)]
 
+ghost use Rattle.std.specs.Prelude.{◌≡◌};
+ghost use Rattle.rules.specs.Refusals.{refusal_number};
+
+use std::fmt;
+
+// Why a setup, an event, a record or a booking is refused. Each has its number, by which the lines, the answers and the log's readers name it.
+#[derive(Clone, Copy, Debug, PartialEq, Eq)]
+pub enum Refusal {
+    // The task is not below n.
+    UnknownTask = 1,
+    // The tick lies before that of the last accepted event.
+    EarlierTick = 2,
+    // 1,000,000 events are accepted already.
+    TooManyEvents = 3,
+    // The task is not in the state that the event asks for.
+    WrongState = 4,
+    // Less than one period has passed since the last arrival.
+    EarlyArrival = 5,
+    // A plain task that is on no processor.
+    NoProcessor = 6,
+    // The job has used its transactions.
+    NoReleaseLeft = 7,
+    // Of a setup: m, n, a priority of 0, a period and the mode that are not allowed.
+    BadProcessors = 10,
+    BadTasks = 11,
+    BadPriority = 12,
+    BadPeriod = 13,
+    BadMode = 14,
+    // The record is cut off, in its head or in its body.
+    CutOff = 20,
+    UnknownKind = 21,
+    WrongLength = 22,
+    SpareUsed = 23,
+    // The record has no place there in a log.
+    OutOfPlace = 24,
+    // The end's count is not that of the event records, or there are too many of them.
+    WrongCount = 25,
+    BytesAfterEnd = 26,
+    // The input ends where a record would begin.
+    NoBytes = 27,
+    NoRoom = 28,
+    // The list of a set does not rise.
+    NotRising = 29,
+    // The session's setup is not the one that was taken before.
+    OtherSetup = 40,
+    // A total would pass the largest number that is held.
+    TotalPasses = 41,
+}
+
+impl From<Refusal> for u8 {
+    ghost from_gives = { λ refusal number. number ≡ refusal_number refusal };
+
+    fn from(refusal: Refusal) -> u8 {
+        refusal as u8
+    }
+}
+
+// A refusal is printed as its number.
+impl fmt::Display for Refusal {
+    fn fmt<W: fmt::Write>(&self, f: &mut fmt::Formatter<W>) -> fmt::Result {
+        write!(f, "{}", u8::from(*self))
+    }
+}
+
 // What a setup says of one task. Priority: larger is higher. Period: in ticks. Transactions: how many one job may release.
-#[derive(Clone, Copy)]
+#[derive(Clone, Copy, Debug, Default, PartialEq, Eq)]
 pub struct Terms {
     pub priority: u16,
     pub period: u32,
@@ -10,7 +74,8 @@ pub struct Terms {
 }
 
 // A setup: m processors, n tasks, the mode, and the terms of each task below n. Mode 0 ranks by fixed priority, mode 1 by deadline. What stands past n means nothing.
-#[derive(Clone, Copy)]
+// n is no length of the table and the mode no enum, since a setup with any of them is taken: `setup_number` has 11 and 14 for those that are not allowed.
+#[derive(Clone, Copy, Debug, PartialEq, Eq)]
 pub struct Setup {
     pub m: u8,
     pub n: u8,
@@ -19,7 +84,7 @@ pub struct Setup {
 }
 
 // A wait: the tick of its release, how many clashing transactions have committed since, and at how many of those commits it ran, just before, on a processor.
-#[derive(Clone, Copy)]
+#[derive(Clone, Copy, Debug, Default, PartialEq, Eq)]
 pub struct Wait {
     pub release: u32,
     pub clashes: u32,
@@ -27,7 +92,7 @@ pub struct Wait {
 }
 
 // A task is in exactly one of these.
-#[derive(Clone, Copy)]
+#[derive(Clone, Copy, Debug, PartialEq, Eq)]
 pub enum State {
     Absent,
     Plain,
@@ -35,25 +100,19 @@ pub enum State {
     Executing,
 }
 
-// A task's last arrival, if any.
-#[derive(Clone, Copy)]
-pub enum Arrival {
-    Never,
-    At(u32),
-}
-
-// A task: its terms, its state, its last arrival, the releases accepted in its present job, and what that job ranks by, smaller is higher. Both are 0 while it is absent.
-#[derive(Clone, Copy)]
+// A task: its terms, its state, the tick of its last arrival, if any, the releases accepted in its present job, and what that job ranks by, smaller is higher. Both are 0 while it is absent.
+#[derive(Clone, Copy, Debug, PartialEq, Eq)]
 pub struct Task {
     pub terms: Terms,
     pub state: State,
-    pub arrival: Arrival,
+    pub arrival: Option<u32>,
     pub releases: u8,
     pub rank: u64,
 }
 
-// A session. Group g of task i's read set is reads[i * 4 + g], and so for its write set.
-#[derive(Clone, Copy)]
+// A session. Group g of task i's read set is reads[i * 4 + g], and so for its write set: one row of words each, and no array of arrays, since the definitions `sets_at` and
+// `with_groups` speak of such a row.
+#[derive(Clone, Copy, Debug, PartialEq, Eq)]
 pub struct Session {
     pub m: u8,
     pub n: u8,
@@ -66,7 +125,7 @@ pub struct Session {
 }
 
 // The four events.
-#[derive(Clone, Copy)]
+#[derive(Clone, Copy, Debug, PartialEq, Eq)]
 pub enum Kind {
     Arrive,
     Release,
@@ -75,7 +134,7 @@ pub enum Kind {
 }
 
 // An event. The two sets count for a release only.
-#[derive(Clone, Copy)]
+#[derive(Clone, Copy, Debug, PartialEq, Eq)]
 pub struct Event {
     pub kind: Kind,
     pub tick: u32,
@@ -85,8 +144,9 @@ pub struct Event {
 }
 
 // What is said of a setup or an event: accepted; a release that runs; one that waits, with the lowest contested object, how many are contested, and
-// whom it waits for, the highest ranked executing task that it clashes with; refused, with the number.
-#[derive(Clone, Copy)]
+// whom it waits for, the highest ranked executing task that it clashes with; refused, with the number. That is a number and no `Refusal`, since text::event_line and
+// answer_lines and tally::commits, releases and is_wait take one with any number.
+#[derive(Clone, Copy, Debug, PartialEq, Eq)]
 pub enum Said {
     Ok,
     Run,
@@ -99,38 +159,33 @@ pub enum Said {
 }
 
 // A task that a scan admitted, with its clash count and its retry count.
-#[derive(Clone, Copy)]
+#[derive(Clone, Copy, Debug, Default, PartialEq, Eq)]
 pub struct Admission {
     pub task: u8,
     pub clashes: u32,
     pub retries: u32,
 }
 
-// The admissions of one scan, in their order. The places from count on are 0.
-#[derive(Clone, Copy)]
+// The admissions of one scan, in their order: an array and a count, since memory is fixed. The places from count on are 0, by the theorem StepSixteen, so that
+// equal answers are equal values.
+#[derive(Clone, Copy, Debug, PartialEq, Eq)]
 pub struct Admissions {
     pub count: u8,
     pub list: [Admission; 16],
 }
 
 // The answer to an event, with the session after it.
-#[derive(Clone, Copy)]
+#[derive(Clone, Copy, Debug, PartialEq, Eq)]
 pub struct Answer {
     pub said: Said,
     pub admitted: Admissions,
     pub session: Session,
 }
 
-// The answer to a setup, with the session that it gives or that stands in its place.
-#[derive(Clone, Copy)]
+// The answer to a setup, with the session that it gives or that stands in its place: no `Result`, since there is a session on a refusal too, of which the theorem
+// RefusedStart speaks.
+#[derive(Clone, Copy, Debug, PartialEq, Eq)]
 pub struct Started {
     pub said: Said,
     pub session: Session,
-}
-
-// The answer to a question for the sum: its number, and the sum.
-#[derive(Clone, Copy)]
-pub struct Summed {
-    pub number: u8,
-    pub sum: u64,
 }

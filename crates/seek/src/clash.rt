@@ -2,9 +2,9 @@
 ghost use Rattle.std.specs.Prelude.{◌≡◌, ◌%◌, ◌<◌};
 ghost use Rattle.machine.specs.Asked.{clash_in, blocked_in};
 ghost use Rattle.machine.specs.Places.{executing_of};
-ghost use Rattle.seek.specs.Groups.{group_in};
+ghost use Rattle.seek.specs.Groups.{group_in, word_in, group_clashes};
 
-use crate::bits::{lowest_of, without_bit};
+use crate::tasks::Tasks;
 use machine::Words;
 
 // One group of two transactions: the words of the first, then of the second.
@@ -14,6 +14,22 @@ pub(crate) struct Group {
     pub writes: u64,
     pub other_reads: u64,
     pub other_writes: u64,
+}
+
+impl Group {
+    // The objects of the group on which the two transactions clash.
+    pub(crate) fn contested(self) -> u64
+        ensures { result ≡ word_in self }
+    {
+        objects::contested_word(self.reads, self.writes, self.other_reads, self.other_writes)
+    }
+
+    // Whether there are some.
+    pub(crate) fn is_contested(self) -> bool
+        ensures { result ≡ group_clashes self }
+    {
+        objects::group_contested(self.reads, self.writes, self.other_reads, self.other_writes)
+    }
 }
 
 // Group g of the transactions of tasks i and j.
@@ -44,33 +60,12 @@ pub fn clash_of(words: &Words, task: u64, other: u64) -> bool
 {
     let i = (task % 64) as usize;
     let j = (other % 64) as usize;
-    for g in 0..4 {
-        let x = group_of(words, i, j, g);
-        if objects::group_contested(x.reads, x.writes, x.other_reads, x.other_writes) {
-            return true;
-        }
-    }
-    false
+    (0..4).any(|g| group_of(words, i, j, g).is_contested())
 }
 
 // Whether the transaction of a task clashes with an executing one. The first clash found ends the question.
 pub fn blocked(words: &Words, task: u64) -> bool
     ensures { result ≡ blocked_in words.now (task % 64) }
 {
-    let i = (task % 64) as usize;
-    let mut found = false;
-    let mut rest = executing_of(words);
-    'search: while rest != 0 {
-        let other = lowest_of(rest);
-        let j = (other % 64) as usize;
-        for g in 0..4 {
-            let x = group_of(words, i, j, g);
-            if objects::group_contested(x.reads, x.writes, x.other_reads, x.other_writes) {
-                found = true;
-                break 'search;
-            }
-        }
-        rest = without_bit(rest, other);
-    }
-    found
+    Tasks(executing_of(words)).any(|other| clash_of(words, task, other))
 }

@@ -6,8 +6,9 @@ ghost use Rattle.machine.specs.Asked.{contested_groups, wait_said_in};
 ghost use Rattle.seek.specs.Foremost.{foremost};
 ghost use Rattle.seek.specs.Groups.{group_in, group_clashes};
 
-use crate::bits::{has_bit, lowest_of, ones_of, with_bit, without_bit};
+use crate::bits::{has_bit, lowest_of, ones_of, with_bit};
 use crate::clash::{executing_of, group_of};
+use crate::tasks::Tasks;
 use machine::Words;
 use rules::Said;
 
@@ -24,50 +25,38 @@ fn contested_of(words: &Words, i: usize, g: usize) -> Contested
     ensures objects { result.objects ≡ contested_groups words.now i g }
     ensures tasks { (j : ℕ) → j < 64 → bit result.tasks j ≡ (bit (executing_of words.now) j && group_clashes (group_in words.now i j g)) }
 {
+    let mut objects = 0;
+    let mut tasks = 0;
     let at = 648 + i * 8 + g;
     if words[at] == 0 && words[at + 4] == 0 {
-        return Contested {
-            objects: 0,
-            tasks: 0,
-        };
+        return Contested { objects, tasks };
     }
-    let mut objects: u64 = 0;
-    let mut tasks: u64 = 0;
-    let mut rest = executing_of(words);
-    while rest != 0 {
-        let other = lowest_of(rest);
-        let j = (other % 64) as usize;
-        let x = group_of(words, i, j, g);
-        let more = objects::contested_word(x.reads, x.writes, x.other_reads, x.other_writes);
-        objects = objects | more;
+    for other in Tasks(executing_of(words)) {
+        let more = group_of(words, i, (other % 64) as usize, g).contested();
+        objects |= more;
         if more != 0 {
             tasks = with_bit(tasks, other);
         }
-        rest = without_bit(rest, other);
     }
-    Contested {
-        objects: objects,
-        tasks: tasks,
-    }
+    Contested { objects, tasks }
 }
 
 // The highest ranked of these tasks, 64 where there is none.
 fn foremost_of(words: &Words, tasks: u64) -> u64
     ensures { result ≡ foremost words.now (bit tasks) 64 }
 {
-    let mut whom: u64 = 64;
-    let mut rest = tasks;
-    while rest != 0 {
-        let other = lowest_of(rest);
-        if whom == 64 || has_bit(words[72 + (whom % 64) as usize], other) {
-            whom = other;
-        }
-        rest = without_bit(rest, other);
-    }
-    whom
+    Tasks(tasks)
+        .reduce(|best, other| {
+            if has_bit(words[72 + (best % 64) as usize], other) {
+                other
+            } else {
+                best
+            }
+        })
+        .unwrap_or(64)
 }
 
-// What is said of the release of a task whose transaction waits. The lowest contested object is of the first group that has one.
+// What is said of the release of a task whose transaction waits. One group is held at a time; the lowest contested object is of the first group that has one.
 pub fn wait_said(words: &Words, task: u64) -> Said
     ensures { result ≡ wait_said_in words.now (task % 64) }
 {
@@ -81,7 +70,7 @@ pub fn wait_said(words: &Words, task: u64) -> Said
             object = (g * 64) as u64 + lowest_of(group.objects);
         }
         contested += ones_of(group.objects);
-        tasks = tasks | group.tasks;
+        tasks |= group.tasks;
     }
     let whom = foremost_of(words, tasks);
     Said::Wait {

@@ -9,9 +9,7 @@ use machine::Words;
 pub fn left_of(words: &Words) -> u64
     ensures { result ≡ left_in words.now }
 {
-    let m = words[0];
-    let busy = ones_of(words[6]);
-    if busy < m { m - busy } else { 0 }
+    words[0].saturating_sub(ones_of(words[6]))
 }
 
 // Whether, with so many left, the task has room: fewer plain tasks rank above it.

@@ -1,7 +1,7 @@
 -- Demand 3, of what the functions return. Start here: the record Holds is what is promised at every place of a run of calls, and Demand3 says that it holds. What is
 -- assumed of an answer is, word for word, what the function's contract ensures of it. The same over the rules alone, and over any ranking, is in rules/specs/Demand3;
 -- what the calls say of a task (passed, retried, wait_length, ..) is in rules/specs/History.
-use Rattle.std.specs.Prelude.{ℕ, ◌≤◌, ◌<◌, ◌≡◌, List, [], ◌∷◌, false}
+use Rattle.std.specs.Prelude.{ℕ, ◌≤◌, ◌<◌, ◌≡◌, List, [], ◌∷◌, Result, false}
 use Rattle.objects.specs.Below.{count}
 use Rattle.rules.specs.declared.Setup.{Setup}
 use Rattle.rules.specs.declared.Session.{Session}
@@ -9,13 +9,13 @@ use Rattle.rules.specs.declared.Kind.TheVariants.{Arrive, Commit, Finish}
 use Rattle.rules.specs.declared.Event.{Event}
 use Rattle.rules.specs.declared.Answer.{Answer}
 use Rattle.rules.specs.declared.Started.{Started}
-use Rattle.rules.specs.declared.Summed.{Summed}
+use Rattle.rules.specs.declared.Refusal.{Refusal}
 use Rattle.rules.specs.Answers.{number}
 use Rattle.rules.specs.Ranking.{by_rank}
 use Rattle.rules.specs.Tasks.{waiting, executing}
 use Rattle.rules.specs.Setup.{start}
 use Rattle.rules.specs.Events.{arrive, release, commit, finish, step}
-use Rattle.rules.specs.Sum.{summed}
+use Rattle.rules.specs.Sum.{summed, sum_number, sum_of}
 use Rattle.rules.specs.Cases.{plain_event, release_of}
 use Rattle.rules.specs.History.{Call, heard, lasted, admitted_at, wait_length, passed}
 use Rattle.rules.specs.Demand3.{RunsOn, Held, WaitsCount, AdmissionsCount, AdmissionsWithin, Apart, Told, RanksAsSaid}
@@ -45,7 +45,7 @@ pub record Holds (from s : Session) (calls : List Call) : Type 0 where
   pub counts : WaitsCount by_rank from s calls
   pub admissions : (e : Event) (answer : Answer) → Answered s e answer → AdmissionsCount by_rank from e answer calls
   -- and the clash count is at most the sum that the function answers for the wait's length
-  pub sum : (i : ℕ) → i < s.n → (answer : Summed) → answer ≡ summed s i (wait_length i calls) → (answer.number ≡ 0) × (passed i calls ≤ answer.sum)
+  pub sum : (i : ℕ) → i < s.n → (answer : Result ℕ Refusal) → answer ≡ summed s i (wait_length i calls) → (sum_number answer ≡ 0) × (passed i calls ≤ sum_of answer)
   -- and so is that of each admission, for the wait that its call ends
   pub within : (e : Event) (answer : Answer) → Answered s e answer → AdmissionsWithin e answer calls
   -- a wait that ended has come to the tick of the call that admitted it

@@ -8,7 +8,10 @@ ghost use Rattle.session.specs.Listed.{admission_in, admissions_in};
 
 use machine::Admitted;
 use objects::Groups;
-use rules::{Admission, Admissions, Answer, Event, Kind, Said, Session};
+use rules::{Admission, Admissions, Answer, Event, Kind, Refusal, Said, Session};
+
+// How many tasks a machine holds.
+const MOST_TASKS: u8 = 64;
 
 // No admission.
 fn no_admissions() -> Admissions
@@ -25,23 +28,21 @@ fn no_admissions() -> Admissions
 }
 
 // The admissions that stand in a list, so many of them.
+#[tactic(auto, using(crate::proofs::Laws::ByValue::first_none, crate::proofs::Laws::ByValue::first_more))]
 fn admissions_of(list: &Admitted, count: u8) -> Admissions
     ensures { result ≡ admissions_in list.now count }
 {
-    let mut end: usize = 16;
-    if count < 16 {
-        end = count as usize;
-    }
-    let mut admitted = no_admissions();
-    for k in 0..end {
-        let at = k * 4;
+    let mut admitted = Admissions {
+        count,
+        ..no_admissions()
+    };
+    for (k, numbers) in list.chunks_exact(4).take(usize::from(count)).enumerate() {
         admitted.list[k] = Admission {
-            task: (list[at] % 256) as u8,
-            clashes: (list[at + 1] % 4294967296) as u32,
-            retries: (list[at + 2] % 4294967296) as u32,
+            task: (numbers[0] % 256) as u8,
+            clashes: (numbers[1] % 4_294_967_296) as u32,
+            retries: (numbers[2] % 4_294_967_296) as u32,
         };
     }
-    admitted.count = count;
     admitted
 }
 
@@ -50,9 +51,9 @@ fn plain_event(kind: Kind, tick: u32, task: u8) -> Event
     ensures { result ≡ plain_event kind tick task }
 {
     Event {
-        kind: kind,
-        tick: tick,
-        task: task,
+        kind,
+        tick,
+        task,
         reads: [0; 4],
         writes: [0; 4],
     }
@@ -62,28 +63,26 @@ fn plain_event(kind: Kind, tick: u32, task: u8) -> Event
 pub fn step(s: Session, e: Event) -> Answer
     ensures { result ≡ step by_rank s e }
 {
-    if 64 < s.n {
+    if s.n > MOST_TASKS {
         return Answer {
-            said: Said::No(1),
+            said: Said::No(u8::from(Refusal::UnknownTask)),
             admitted: no_admissions(),
             session: s,
         };
     }
-    let mut words = [0u64; 1280];
-    let mut list = [0u64; 64];
+    let mut words = [0; 1280];
+    let mut list = [0; 64];
     laid::open(&mut words, s);
     let reply = manager::step(&mut words, &mut list, e);
-    let said = reply.said;
-    let admitted = admissions_of(&list, reply.admitted);
-    let session = laid::read(&words, s);
     Answer {
-        said: said,
-        admitted: admitted,
-        session: session,
+        said: reply.said,
+        admitted: admissions_of(&list, reply.admitted),
+        session: laid::read(&words, s),
     }
 }
 
 // An absent task's job begins: it is plain, with no release yet.
+#[tactic(auto, unfolding(rules::specs::Events::step))]
 pub fn arrive(s: Session, tick: u32, task: u8) -> Answer
     ensures { result ≡ arrive s tick task }
 {
@@ -91,20 +90,22 @@ pub fn arrive(s: Session, tick: u32, task: u8) -> Answer
 }
 
 // A plain task on a processor releases a transaction with these sets: it runs where it clashes with no executing one, and else it waits, and a scan follows.
+#[tactic(auto, unfolding(rules::specs::Events::step))]
 pub fn release(s: Session, tick: u32, task: u8, reads: Groups, writes: Groups) -> Answer
     ensures { result ≡ release by_rank s tick task reads writes }
 {
     let e = Event {
         kind: Kind::Release,
-        tick: tick,
-        task: task,
-        reads: reads,
-        writes: writes,
+        tick,
+        task,
+        reads,
+        writes,
     };
     step(s, e)
 }
 
 // An executing task's transaction commits: first the counts of those that it clashes with rise, then a scan follows.
+#[tactic(auto, unfolding(rules::specs::Events::step))]
 pub fn commit(s: Session, tick: u32, task: u8) -> Answer
     ensures { result ≡ commit by_rank s tick task }
 {
@@ -112,6 +113,7 @@ pub fn commit(s: Session, tick: u32, task: u8) -> Answer
 }
 
 // A plain task on a processor is absent, and a scan follows.
+#[tactic(auto, unfolding(rules::specs::Events::step))]
 pub fn finish(s: Session, tick: u32, task: u8) -> Answer
     ensures { result ≡ finish by_rank s tick task }
 {

@@ -1,3 +1,2 @@
 -- The laws that a setup's functions rest on.
-pub mod Given
 pub mod Start

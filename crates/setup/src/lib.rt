@@ -1,55 +1,43 @@
-// A setup: the number that refuses it, when two are equal, and the session that it starts.
+// A setup: what refuses it, when two are equal, and the session that it starts.
 #![tactic(auto)]
 
 ghost use Rattle.std.specs.Prelude.{◌≡◌};
-ghost use Rattle.rules.specs.Setup.{terms_number, setup_number, same_terms, same_setup, quiet, no_session, start};
+ghost use Rattle.rules.specs.Refusals.{result_number};
+ghost use Rattle.rules.specs.Tasks.{fresh_task};
+ghost use Rattle.rules.specs.Setup.{terms_number, setup_number, same_setup, quiet, no_session, start};
 
-use rules::{Arrival, Said, Session, Setup, Started, State, Task, Terms};
+use rules::{Refusal, Said, Session, Setup, Started, State, Task, Terms};
 
-// The number that a task's terms give: 12, 13, or 0.
-fn terms_number(t: Terms) -> u8
-    ensures { result ≡ terms_number t }
+// Whether a task's terms are allowed.
+fn check_terms(t: Terms) -> Result<(), Refusal>
+    ensures { result_number result ≡ terms_number t }
 {
     if t.priority == 0 {
-        return 12;
+        return Err(Refusal::BadPriority);
     }
-    if t.period == 0 {
-        return 13;
+    if !(1..=86_400_000).contains(&t.period) {
+        return Err(Refusal::BadPeriod);
     }
-    if 86400000 < t.period {
-        return 13;
-    }
-    0
+    Ok(())
 }
 
-// The number that a setup gives: 10, 11, 14, then 12 and 13 for the lowest task first, or 0.
-pub fn setup_number(u: Setup) -> u8
-    ensures { result ≡ setup_number u }
+// Whether a setup is allowed: m is tried first, then n, the mode, and the terms of the lowest task first.
+pub fn check_setup(u: Setup) -> Result<(), Refusal>
+    ensures { result_number result ≡ setup_number u }
 {
-    if u.m == 0 {
-        return 10;
+    if !(1..=16).contains(&u.m) {
+        return Err(Refusal::BadProcessors);
     }
-    if 16 < u.m {
-        return 10;
-    }
-    if u.n == 0 {
-        return 11;
-    }
-    if 64 < u.n {
-        return 11;
+    if !(1..=64).contains(&u.n) {
+        return Err(Refusal::BadTasks);
     }
     if 1 < u.mode {
-        return 14;
+        return Err(Refusal::BadMode);
     }
-    let end = u.n as usize;
-    for i in 0..end {
-        let t = u.terms[i];
-        let number = terms_number(t);
-        if number != 0 {
-            return number;
-        }
+    for terms in &u.terms[..u.n as usize] {
+        check_terms(*terms)?;
     }
-    0
+    Ok(())
 }
 
 // A session in which nothing has happened.
@@ -57,14 +45,27 @@ fn quiet_session(m: u8, n: u8, mode: u8, tasks: [Task; 64]) -> Session
     ensures { result ≡ quiet m n mode tasks }
 {
     Session {
-        m: m,
-        n: n,
-        mode: mode,
+        m,
+        n,
+        mode,
         tick: 0,
         accepted: 0,
-        tasks: tasks,
+        tasks,
         reads: [0; 256],
         writes: [0; 256],
+    }
+}
+
+// A task to which nothing has happened.
+fn fresh_task(terms: Terms) -> Task
+    ensures { result ≡ fresh_task terms }
+{
+    Task {
+        terms,
+        state: State::Absent,
+        arrival: None,
+        releases: 0,
+        rank: 0,
     }
 }
 
@@ -72,35 +73,15 @@ fn quiet_session(m: u8, n: u8, mode: u8, tasks: [Task; 64]) -> Session
 pub fn setup(u: Setup) -> Started
     ensures { result ≡ start u }
 {
-    let none = Task {
-        terms: Terms {
-            priority: 0,
-            period: 0,
-            transactions: 0,
-        },
-        state: State::Absent,
-        arrival: Arrival::Never,
-        releases: 0,
-        rank: 0,
-    };
-    let mut tasks = [none; 64];
-    let number = setup_number(u);
-    if number != 0 {
+    let mut tasks = [fresh_task(Terms::default()); 64];
+    if let Err(refusal) = check_setup(u) {
         return Started {
-            said: Said::No(number),
+            said: Said::No(u8::from(refusal)),
             session: quiet_session(0, 0, 0, tasks),
         };
     }
-    let end = u.n as usize;
-    for i in 0..end {
-        let terms = u.terms[i];
-        tasks[i] = Task {
-            terms: terms,
-            state: State::Absent,
-            arrival: Arrival::Never,
-            releases: 0,
-            rank: 0,
-        };
+    for (i, terms) in u.terms[..u.n as usize].iter().enumerate() {
+        tasks[i] = fresh_task(*terms);
     }
     Started {
         said: Said::Ok,
@@ -112,53 +93,19 @@ pub fn setup(u: Setup) -> Started
 pub fn no_session() -> Session
     ensures { result ≡ no_session }
 {
-    let none = Terms {
-        priority: 0,
-        period: 0,
-        transactions: 0,
-    };
     let refused = setup(Setup {
         m: 0,
         n: 0,
         mode: 0,
-        terms: [none; 64],
+        terms: [Terms::default(); 64],
     });
     refused.session
 }
 
-fn same_terms(t: Terms, other: Terms) -> bool
-    ensures { result ≡ same_terms t other }
-{
-    if t.priority != other.priority {
-        return false;
-    }
-    if t.period != other.period {
-        return false;
-    }
-    t.transactions == other.transactions
-}
-
-// Two setups are equal if m, n, the mode and the numbers of the tasks below n are. An n past the table is cut at 64.
+// Two setups are equal if m, n, the mode and the numbers of the tasks below n are. An n past the table is cut at 64. No derived equality: what stands past n means nothing.
 pub fn same_setup(u: Setup, other: Setup) -> bool
     ensures { result ≡ same_setup u other }
 {
-    if u.m != other.m {
-        return false;
-    }
-    if u.n != other.n {
-        return false;
-    }
-    if u.mode != other.mode {
-        return false;
-    }
-    for i in 0..64 {
-        if i < u.n as usize {
-            let t = u.terms[i];
-            let o = other.terms[i];
-            if !same_terms(t, o) {
-                return false;
-            }
-        }
-    }
-    true
+    let end = (u.n as usize).min(64);
+    (u.m, u.n, u.mode) == (other.m, other.n, other.mode) && u.terms[..end] == other.terms[..end]
 }

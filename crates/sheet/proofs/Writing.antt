@@ -1,43 +1,33 @@
 -- What is put where it has room follows what stood there.
-use Prim.Native.Nat.{ℕ, ◌+◌, ◌≤◌}
+use Prim.Native.Nat.{ℕ, ◌+◌, ◌≤◌, ◌<◌, min}
 use mathlib.Core.Path.{◌≡◌, refl, sym, ap, ap₂, ◌∙◌}
-use mathlib.Core.List.{List, [], ◌∷◌, ◌++◌, append_assoc, append-nil}
+use mathlib.Core.List.{List, [], ◌∷◌, ◌++◌, append_assoc}
 use native.Mathlib.Numerals.{add-one}
 use native.Mathlib.Omega.{arith}
-use lib.ListN.{length, take, drop, length-append, length-take}
+use lib.ListN.{length, take, drop, length-append, length-take, length-drop}
 use lib.Seq.{take_at, drop-drop, drop-append-add}
 use Rattle.rules.specs.declared.Session.{Session}
 use Rattle.report.specs.declared.Figures.{Figures}
 use Rattle.report.specs.Items.{figures_at}
-use Rattle.text.specs.declared.Put.{Put}
-use Rattle.text.specs.declared.Put.TheVariants.{Next}
+use Rattle.std.specs.Prelude.{Option, Some, None}
 use Rattle.text.specs.Decimal.{decimal}
-use Rattle.text.specs.Lines.{parts_after}
-use Rattle.text.specs.Written.{put_next, wrote, over, buffer_after, Follows}
-use Rattle.text.proofs.Writing.{accepted, length_over, follows_word}
-use Rattle.sheet.specs.Text.{decimals, spaced_text, row_text, rows_text, bad_front, bad_text}
-use Rattle.sheet.specs.Sums.{sum_text, sum_rows}
-
-pub put_follows : (l : List ℕ) (at : ℕ) (word after : List ℕ) (put : Put) (next : ℕ) → at + length word ≤ length l
-    → put ≡ wrote l at word → after ≡ buffer_after l at word → next ≡ put_next put → Follows l at word after next
-put_follows l at word after put next h said left e =
-    let p = accepted l at word h in
-    let place : next ≡ at + length word = e ∙ ap put_next (said ∙ sym p.0) in
-    rw place (follows_word l at word after h (left ∙ sym p.1))
+use Rattle.text.specs.Lines.{joined, parts_after, numbers_after}
+use Rattle.text.specs.Written.{wrote, over, buffer_after}
+use Rattle.text.proofs.Writing.{accepted, refused}
+use Rattle.sheet.specs.Text.{decimals, named_text, row_text, rows_text, bad_front, bad_text}
+use Rattle.sheet.specs.Sums.{length_word, sum_columns, sum_text, sum_rows, sums_text}
 
 -- ---- numbers with a space before each
 
--- they are what follows a part, up to the line feed
-pub spaced_line : (ns : List ℕ) → parts_after (decimals ns) ≡ spaced_text ns ++ (10 ∷ [])
-unfolding parts_after decimals spaced_text
-spaced_line [] = refl
-spaced_line (n ∷ more) = ap (λ (s : List ℕ). 32 ∷ s) (ap (λ (s : List ℕ). decimal n ++ s) (spaced_line more) ∙ sym (append_assoc (decimal n) (spaced_text more) (10 ∷ [])))
+-- they are what follows a word, to the end of the line
+numbers_parts : (ns : List ℕ) → numbers_after ns ≡ parts_after (decimals ns)
+unfolding parts_after decimals
+numbers_parts [] = refl
+numbers_parts (n ∷ more) = ap (λ (s : List ℕ). 32 ∷ (decimal n ++ s)) (numbers_parts more)
 
--- one number more
-pub spaced_more : (ns : List ℕ) (n : ℕ) → spaced_text (ns ++ (n ∷ [])) ≡ spaced_text ns ++ (32 ∷ decimal n)
-unfolding spaced_text
-spaced_more [] n = ap (λ (s : List ℕ). 32 ∷ s) (append-nil (decimal n))
-spaced_more (x ∷ more) n = ap (λ (s : List ℕ). 32 ∷ s) (ap (λ (s : List ℕ). decimal x ++ s) (spaced_more more n) ∙ sym (append_assoc (decimal x) (spaced_text more) (32 ∷ decimal n)))
+pub numbers_line : (word ns : List ℕ) → word ++ numbers_after ns ≡ joined (word ∷ decimals ns)
+unfolding joined
+numbers_line word ns = ap (λ (s : List ℕ). word ++ s) (numbers_parts ns)
 
 -- ---- the rows
 
@@ -48,6 +38,11 @@ rows_more n all = rw add-one
 pub sum_rows_more : (s : Session) (ticks n : ℕ) → sum_rows s ticks (n + 1) ≡ sum_rows s ticks n ++ sum_text s ticks n
 unfolding sum_rows
 sum_rows_more s ticks n = rw add-one
+
+-- the text of the sums, as it is pushed
+pub sums_parts : (s : Session) (ticks n : ℕ) → n ≡ min s.n 64 → named_text length_word ticks ++ (joined sum_columns ++ sum_rows s ticks n) ≡ sums_text s ticks
+unfolding sums_text
+sums_parts s ticks n e = rw e (sym (append_assoc (named_text length_word ticks) (joined sum_columns) (sum_rows s ticks (min s.n 64))))
 
 -- ---- one word after another, each in its place
 
@@ -64,8 +59,22 @@ over_more l at p q h =
     ap₂ (λ (x y : List ℕ). x ++ q ++ y) first last
     ∙ ap₂ (λ (x y : List ℕ). x ++ y) (append_assoc (take at l) p q) (ap (λ (n : ℕ). drop n l) sum)
 
+length_over : (l : List ℕ) (at : ℕ) (word : List ℕ) → at + length word ≤ length l → length (over l at word) ≡ length l
+length_over l at word h = simp (length-append, length-take, length-drop) (omega arith)
+
+-- where a text that has room ends
+pub put_end : (l : List ℕ) (at end : ℕ) (word : List ℕ) → at + length word ≤ length l → Some end ≡ wrote l at word → end ≡ at + length word
+put_end l at end word h e = let p = (accepted l at word h).0 in cc
+
+pub put_none : (l : List ℕ) (at : ℕ) (word : List ℕ) → at + length word ≤ length l → None ≡ wrote l at word → ⊥
+put_none l at word h e = let p = (accepted l at word h).0 in cc
+
+-- a put keeps the length
+pub put_length : (l : List ℕ) (at : ℕ) (word m : List ℕ) → at + length word ≤ length l → m ≡ buffer_after l at word → length m ≡ length l
+put_length l at word m h e = ap length (e ∙ sym (accepted l at word h).1) ∙ length_over l at word h
+
 -- what the second of two puts answers and leaves, where both have room
-pub both_put : (l : List ℕ) (at : ℕ) (p q m r : List ℕ) (put : Put) → at + length p + length q ≤ length l
+pub both_put : (l : List ℕ) (at : ℕ) (p q m r : List ℕ) (put : Option ℕ) → at + length p + length q ≤ length l
     → m ≡ buffer_after l at p → put ≡ wrote m (at + length p) q → r ≡ buffer_after m (at + length p) q
     → (put ≡ wrote l at (p ++ q)) × (r ≡ buffer_after l at (p ++ q))
 both_put l at p q m r put h e said left =
@@ -74,15 +83,19 @@ both_put l at p q m r put h e said left =
     let size : length m ≡ length l = ap length first ∙ length_over l at p (omega arith) in
     let second = accepted m (at + length p) q (omega arith) in
     let both = accepted l at (p ++ q) (omega (arith, sum)) in (
-      said ∙ sym second.0 ∙ ap Next sum ∙ both.0,
+      said ∙ sym second.0 ∙ ap Some sum ∙ both.0,
       left ∙ sym second.1 ∙ ap (λ (x : List ℕ). over x (at + length p) q) first ∙ over_more l at p q h ∙ both.1,
     )
 
-pub size_three : (a b c : List ℕ) → length (a ++ b ++ c) ≡ length a + length b + length c
-size_three a b c = simp length-append
+-- three that have no room
+pub refused_three : (l : List ℕ) (at : ℕ) (a b c : List ℕ) → length l < at + length a + length b + length c
+    → (None ≡ wrote l at (a ++ b ++ c)) × (l ≡ buffer_after l at (a ++ b ++ c))
+refused_three l at a b c h =
+    let size : length (a ++ b ++ c) ≡ length a + length b + length c = simp length-append in
+    refused l at (a ++ b ++ c) (omega arith)
 
 -- the same of three
-pub three_put : (l : List ℕ) (at : ℕ) (a b c m n r : List ℕ) (second put : Put) → at + length a + length b + length c ≤ length l
+pub three_put : (l : List ℕ) (at : ℕ) (a b c m n r : List ℕ) (second put : Option ℕ) → at + length a + length b + length c ≤ length l
     → m ≡ buffer_after l at a → second ≡ wrote m (at + length a) b → n ≡ buffer_after m (at + length a) b
     → put ≡ wrote n (at + length a + length b) c → r ≡ buffer_after n (at + length a + length b) c
     → (put ≡ wrote l at (a ++ b ++ c)) × (r ≡ buffer_after l at (a ++ b ++ c))

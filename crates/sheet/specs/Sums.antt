@@ -1,7 +1,7 @@
 -- The text of the sums: for each task the sum of demand 3, for a wait of one length.
 use Rattle.std.specs.Prelude.{ℕ, zero, suc, min, List, [], ◌∷◌, ◌++◌}
 use Rattle.rules.specs.declared.Session.{Session}
-use Rattle.rules.specs.Sum.{summed}
+use Rattle.rules.specs.Sum.{summed, sum_of}
 use Rattle.text.specs.Lines.{joined}
 use Rattle.sheet.specs.Text.{decimals, named_text}
 
@@ -15,7 +15,7 @@ sum_columns = (116 ∷ 97 ∷ 115 ∷ 107 ∷ []) ∷ (115 ∷ 117 ∷ 109 ∷ [
 -- 'The sum of demand 3 is also a public answer, for a task and a wait length in ticks': a task's number and its sum
 unfoldable pub sum_text : Session → ℕ → ℕ → List ℕ
 unfolding joined decimals
-sum_text s length i = joined (decimals (i ∷ (summed s i length).sum ∷ []))
+sum_text s length i = joined (decimals (i ∷ sum_of (summed s i length) ∷ []))
 
 -- the first n tasks
 unfoldable pub sum_rows : Session → ℕ → ℕ → List ℕ

@@ -1,195 +1,137 @@
-// The sheet while it is composed, from its front: each function puts a piece after what stands, and answers where the piece ends.
-ghost use Rattle.std.specs.Prelude.{◌≡◌, ◌+◌, ◌*◌, ◌≤◌, min, [], ◌∷◌, ◌++◌, length};
-ghost use Rattle.report.specs.Sheet.{most};
+// The sheet while it is composed, from its front: each function pushes a piece on what stands, and fails where the line has no room for it.
+ghost use Rattle.std.specs.Prelude.{◌≡◌, ◌+◌, ◌*◌, ◌≤◌, ◌<◌, [], ◌∷◌, ◌++◌, min, take, length, is_ok};
 ghost use Rattle.text.specs.Decimal.{decimal};
-ghost use Rattle.text.specs.Written.{put_next, Follows};
-ghost use Rattle.sheet.specs.Text.{spaced_text, figures_in, row_text, rows_text, most_text, head_text, foot_text, sheet_text, bad_front};
+ghost use Rattle.text.specs.Lines.{joined};
+ghost use Rattle.text.specs.Written.{Pushes, Within};
+ghost use Rattle.sheet.specs.Text.{columns, row_text, rows_text, head_text, foot_text, sheet_text, bad_front};
 
-use crate::order::{most_key, most_next};
+use crate::order::most;
+use arrayvec::{ArrayVec, CapacityError};
 use report::{Figures, Tally};
-use text::{Put, put_number, put_word};
+use text::{push_number, push_rest, push_word};
 
-// The next place.
-fn next_of(put: Put) -> usize
-    ensures { result ≡ put_next put }
+// A word and a long number, to the end of the line.
+pub(crate) fn push_long<const N: usize>(
+    line: &mut ArrayVec<u8, N>,
+    word: &[u8],
+    n: u64,
+) -> Result<(), CapacityError>
+    ensures is { Pushes N line.old.items (word.now ++ (decimal n ++ (10 ∷ []))) line.new.items (is_ok result) }
+    ensures short { Within (length word.now + 21) N line.old.items line.new.items (is_ok result) }
 {
-    match put {
-        Put::Next(next) => next,
-        Put::Full => 0,
+    push_word(line, word)?;
+    push_number(line, n)?;
+    push_word(line, b"\n")
+}
+
+// The row of a task: its number, and its figures in the order of the columns.
+fn push_row<const N: usize>(
+    line: &mut ArrayVec<u8, N>,
+    i: usize,
+    f: &Figures,
+) -> Result<(), CapacityError>
+    requires { i < 64 }
+    ensures is { Pushes N line.old.items (row_text i f.now) line.new.items (is_ok result) }
+    ensures short { Within 80 N line.old.items line.new.items (is_ok result) }
+{
+    push_number(line, i as u64)?;
+    push_rest(
+        line,
+        b"",
+        &[
+            f.committed,
+            f.waited,
+            f.clashes,
+            f.retries,
+            f.longest,
+            f.ticks,
+            f.waits,
+        ],
+    )
+}
+
+// The names of the columns, and the rows of the tasks.
+fn push_table<const N: usize>(
+    line: &mut ArrayVec<u8, N>,
+    rows: &[Figures],
+) -> Result<(), CapacityError>
+    requires { length rows.now ≤ 64 }
+    ensures is { Pushes N line.old.items (joined columns ++ rows_text (length rows.now) rows.now) line.new.items (is_ok result) }
+    ensures short { Within 5178 N line.old.items line.new.items (is_ok result) }
+{
+    push_word(
+        line,
+        b"task committed waited clashes retries longest ticks waits\n",
+    )?;
+    for (i, f) in rows.iter().enumerate() {
+        push_row(line, i, f)?;
     }
-}
-
-// A word.
-pub(crate) fn word(line: &mut [u8], at: usize, bytes: &[u8]) -> usize
-    requires { at + length bytes.now ≤ length line.old }
-    ensures { Follows line.old at bytes.now line.new result }
-{
-    next_of(put_word(line, at, bytes))
-}
-
-// A number, in decimal.
-pub(crate) fn number(line: &mut [u8], at: usize, n: u64) -> usize
-    requires { at + 20 ≤ length line.old }
-    ensures { Follows line.old at (decimal n) line.new result }
-{
-    next_of(put_number(line, at, n))
-}
-
-// A space and a number.
-fn spaced(line: &mut [u8], at: usize, n: u32) -> usize
-    requires { at + 21 ≤ length line.old }
-    ensures is { Follows line.old at (32 ∷ decimal n) line.new result }
-    ensures reaches { result ≤ at + 11 }
-{
-    let next = word(line, at, b" ");
-    number(line, next, n as u64)
-}
-
-// A word and a number, to the end of the line.
-pub(crate) fn named(line: &mut [u8], at: usize, name: &[u8], n: u64) -> usize
-    requires { at + length name.now + 21 ≤ length line.old }
-    ensures is { Follows line.old at (name.now ++ (decimal n ++ (10 ∷ []))) line.new result }
-    ensures reaches { result ≤ at + length name.now + 21 }
-{
-    let a = word(line, at, name);
-    let b = number(line, a, n);
-    word(line, b, b"\n")
-}
-
-// The figures of a task, in the order of the columns, with a space before each.
-fn figures(line: &mut [u8], at: usize, f: Figures) -> usize
-    requires { at + 87 ≤ length line.old }
-    ensures is { Follows line.old at (spaced_text (figures_in f)) line.new result }
-    ensures reaches { result ≤ at + 77 }
-{
-    let a = spaced(line, at, f.committed);
-    let b = spaced(line, a, f.waited);
-    let c = spaced(line, b, f.clashes);
-    let d = spaced(line, c, f.retries);
-    let e = spaced(line, d, f.longest);
-    let g = spaced(line, e, f.ticks);
-    spaced(line, g, f.waits)
-}
-
-// The row of a task.
-fn row(line: &mut [u8], at: usize, i: u32, f: Figures) -> usize
-    requires { at + 97 ≤ length line.old }
-    ensures is { Follows line.old at (row_text i f) line.new result }
-    ensures reaches { result ≤ at + 88 }
-{
-    let a = number(line, at, i as u64);
-    let b = figures(line, a, f);
-    word(line, b, b"\n")
-}
-
-// The rows of the first n tasks.
-fn rows(line: &mut [u8], at: usize, all: [Figures; 64], n: usize) -> usize
-    requires { (n ≤ 64) × (at + 5641 ≤ length line.old) }
-    ensures is { Follows line.old at (rows_text n all) line.new result }
-    ensures reaches { result ≤ at + 88 * n }
-{
-    let mut next = at;
-    for i in 0..n {
-        let f = all[i];
-        next = row(line, next, i as u32, f);
-    }
-    next
-}
-
-// The numbers of those of the first n tasks that waited, in their order, with a space before each.
-fn most_numbers(line: &mut [u8], at: usize, all: [Figures; 64], n: usize) -> usize
-    requires { (n ≤ 64) × (at + 714 ≤ length line.old) }
-    ensures is { Follows line.old at (spaced_text (most all n)) line.new result }
-    ensures reaches { result ≤ at + 704 }
-{
-    let mut next = at;
-    let mut from: u64 = 0;
-    for k in 0..n {
-        let i = most_next(all, n, from);
-        if i == 64 {
-            return next;
-        }
-        next = spaced(line, next, i as u32);
-        let f = all[i];
-        from = most_key(f, i) + 1;
-    }
-    next
-}
-
-// The line of those that waited.
-fn most_line(line: &mut [u8], at: usize, all: [Figures; 64], n: usize) -> usize
-    requires { (n ≤ 64) × (at + 718 ≤ length line.old) }
-    ensures is { Follows line.old at (most_text n all) line.new result }
-    ensures reaches { result ≤ at + 709 }
-{
-    let a = word(line, at, b"most");
-    let b = most_numbers(line, a, all, n);
-    word(line, b, b"\n")
+    Ok(())
 }
 
 // The lines up to the last row.
-fn head(line: &mut [u8], logs: u32, all: [Figures; 64], n: usize) -> usize
-    requires { (n ≤ 64) × (6144 ≤ length line.old) }
-    ensures is { Follows line.old 0 (head_text logs n all) line.new result }
-    ensures reaches { result ≤ 5716 }
+fn push_head<const N: usize>(
+    line: &mut ArrayVec<u8, N>,
+    logs: u32,
+    rows: &[Figures],
+) -> Result<(), CapacityError>
+    requires { length rows.now ≤ 64 }
+    ensures is { Pushes N line.old.items (head_text logs (length rows.now) rows.now) line.new.items (is_ok result) }
+    ensures short { Within 5194 N line.old.items line.new.items (is_ok result) }
 {
-    let a = named(line, 0, b"logs ", logs as u64);
-    let b = word(
-        line,
-        a,
-        b"task committed waited clashes retries longest ticks waits\n",
-    );
-    rows(line, b, all, n)
+    push_rest(line, b"logs", &[logs])?;
+    push_table(line, rows)
 }
 
 // The lines after the rows: what is over all tasks.
-fn foot(
-    line: &mut [u8],
-    at: usize,
+fn push_foot<const N: usize>(
+    line: &mut ArrayVec<u8, N>,
     half: u32,
     nine: u32,
-    all: [Figures; 64],
-    n: usize,
+    rows: &[Figures],
     left: u64,
-) -> usize
-    requires { (n ≤ 64) × (at + 795 ≤ length line.old) }
-    ensures is { Follows line.old at (foot_text half nine n all left) line.new result }
-    ensures reaches { result ≤ at + 795 }
+) -> Result<(), CapacityError>
+    requires { length rows.now ≤ 64 }
+    ensures is { Pushes N line.old.items (foot_text half nine (length rows.now) rows.now left) line.new.items (is_ok result) }
+    ensures short { Within 775 N line.old.items line.new.items (is_ok result) }
 {
-    let a = named(line, at, b"middle ", half as u64);
-    let b = named(line, a, b"ninetenths ", nine as u64);
-    let c = most_line(line, b, all, n);
-    named(line, c, b"left ", left)
-}
-
-// How many tasks have a row.
-pub(crate) fn rows_of(n: u8) -> usize
-    ensures { result ≡ min n 64 }
-{
-    if n < 64 { n as usize } else { 64 }
+    push_rest(line, b"middle", &[half])?;
+    push_rest(line, b"ninetenths", &[nine])?;
+    push_rest(line, b"most", most(rows).as_slice())?;
+    push_long(line, b"left ", left)
 }
 
 // The whole sheet.
-pub(crate) fn sheet_text(line: &mut [u8], logs: u32, t: Tally, row: &[u32], left: u64) -> usize
-    requires { 6656 ≤ length line.old }
-    ensures is { Follows line.old 0 (sheet_text logs t row.now left) line.new result }
-    ensures reaches { result ≤ 6656 }
+pub(crate) fn push_sheet<const N: usize>(
+    line: &mut ArrayVec<u8, N>,
+    logs: u32,
+    t: Tally,
+    row: &[u32],
+    left: u64,
+) -> Result<(), CapacityError>
+    ensures is { Pushes N line.old.items (sheet_text logs t row.now left) line.new.items (is_ok result) }
+    ensures short { Within 6656 N line.old.items line.new.items (is_ok result) }
 {
-    let all = t.figures;
-    let n = rows_of(t.setup.n);
-    let half = waits::middle(t, row);
-    let nine = waits::nine_tenths(t, row);
-    let next = head(line, logs, all, n);
-    foot(line, next, half, nine, all, n, left)
+    let rows = &t.figures[..usize::from(t.setup.n.min(64))];
+    push_head(line, logs, rows)?;
+    push_foot(
+        line,
+        waits::middle(t, row),
+        waits::nine_tenths(t, row),
+        rows,
+        left,
+    )
 }
 
 // What stands before the name of a log that reads badly.
-pub(crate) fn bad_front(line: &mut [u8], number: u8) -> usize
-    requires { 32 ≤ length line.old }
-    ensures is { Follows line.old 0 (bad_front number) line.new result }
-    ensures reaches { result ≤ 32 }
+pub(crate) fn push_bad_front<const N: usize>(
+    line: &mut ArrayVec<u8, N>,
+    number: u8,
+) -> Result<(), CapacityError>
+    ensures is { Pushes N line.old.items (bad_front number) line.new.items (is_ok result) }
+    ensures short { Within 32 N line.old.items line.new.items (is_ok result) }
 {
-    let a = word(line, 0, b"bad");
-    let b = spaced(line, a, number as u32);
-    word(line, b, b" ")
+    push_word(line, b"bad ")?;
+    push_number(line, u64::from(number))?;
+    push_word(line, b" ")
 }

@@ -1,5 +1,7 @@
 -- Parts of a booking, as the functions that make them say them.
-use Rattle.std.specs.Prelude.{ℕ, ◌+◌, ◌≤◌, ◌<◌, ◌≡◌, List, Bool, false, cond, get_or}
+use Rattle.std.specs.Prelude.{ℕ, ◌+◌, ◌≤◌, ◌<◌, ◌≡◌, Option, Some, None, Result, Ok, Err, List, Bool, true, cond, get_or, ⊤}
+use Rattle.rules.specs.declared.Refusal.{Refusal}
+use Rattle.rules.specs.declared.Refusal.TheVariants.{TotalPasses}
 use Rattle.rules.specs.declared.State.{State}
 use Rattle.rules.specs.declared.State.TheVariants.{Absent, Plain, Waiting, Executing}
 use Rattle.rules.specs.declared.Task.{Task}
@@ -8,29 +10,31 @@ use Rattle.rules.specs.declared.Admission.{Admission}
 use Rattle.rules.specs.declared.Admissions.{Admissions}
 use Rattle.rules.specs.Scan.{no_admission}
 use Rattle.report.specs.declared.Figures.{Figures}
-use Rattle.tally.specs.declared.item.Sum.{Sum}
-use Rattle.tally.specs.declared.item.Counted.{Counted}
 use Rattle.report.specs.declared.Tally.{Tally}
 use Rattle.report.specs.declared.OpenSession.{OpenSession}
 use Rattle.report.specs.declared.WithBooked.{WithBooked}
-use Rattle.report.specs.Items.{Item, within, after, fits}
+use Rattle.report.specs.Items.{Item, within, after, fits, entered, enterable}
 use Rattle.report.specs.Booking.{wait_item}
 use Rattle.tally.specs.Listed.{listed_wait}
 
 -- so much more, where it fits
-abbrev pub added : ℕ → ℕ → Sum
-added total more = record { fits = within (total + more); total = cond (within (total + more)) (total + more) total }
+abbrev pub added : ℕ → ℕ → Option ℕ
+added total more = cond (within (total + more)) (Some (total + more)) None
 
 -- one item more, where it fits
-abbrev pub counted_by : Bool → Figures → Item → Counted
-counted_by b f x = record { fits = b; figures = cond b (after f x) f }
+abbrev pub counted_by : Bool → Figures → Item → Option Figures
+counted_by b f x = cond b (Some (after f x)) None
 
-abbrev pub counted : Figures → Item → Counted
+abbrev pub counted : Figures → Item → Option Figures
 counted f x = counted_by (fits f x) f x
 
--- and where it does not
-abbrev pub passing : Figures → Counted
-passing f = record { fits = false; figures = f }
+-- what entering items into the figures of all tasks says, and what it leaves: where a total passes, that is not said
+abbrev pub verdict : Bool → Result ⊤ Refusal
+verdict fit = cond fit (Ok tt) (Err TotalPasses)
+
+pub record Enters (all : List Figures) (new : List Item) (result : Result ⊤ Refusal) (left : List Figures) : Type 0 where
+  pub fits : result ≡ verdict (enterable all new)
+  pub figures : enterable all new ≡ true → left ≡ entered all new
 
 -- what is listed lies within the tables
 abbrev pub Inside : Admissions → Type 0

@@ -12,23 +12,15 @@ mod start;
 pub use by_value::{booking, opening};
 pub use entry::{commits, enter, is_wait, releases};
 pub use lent::{book_event, open_session};
-use report::Tally;
 pub use start::empty;
 
 // What is noted of an accepted event, beside the list of its admissions: its tick, its task, whether it commits, whether the transaction that its task released last had to
 // wait, and how many are admitted.
-#[derive(Clone, Copy)]
+#[derive(Clone, Copy, Debug, PartialEq, Eq)]
 pub struct Noted {
     pub tick: u32,
     pub task: u8,
     pub commits: bool,
     pub waited: bool,
     pub admitted: u8,
-}
-
-// What an event makes of a tally, and the number: 41 where a total would pass, and else 0.
-#[derive(Clone, Copy)]
-pub struct WithEntered {
-    pub number: u8,
-    pub tally: Tally,
 }

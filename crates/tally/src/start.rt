@@ -9,16 +9,15 @@ use rules::{Setup, Terms};
 fn no_setup() -> Setup
     ensures { result ≡ no_setup }
 {
-    let none = Terms {
-        priority: 0,
-        period: 0,
-        transactions: 0,
-    };
     Setup {
         m: 0,
         n: 0,
         mode: 0,
-        terms: [none; 64],
+        terms: [Terms {
+            priority: 0,
+            period: 0,
+            transactions: 0,
+        }; 64],
     }
 }
 
@@ -26,19 +25,9 @@ fn no_setup() -> Setup
 pub fn empty() -> Tally
     ensures { result ≡ empty_tally no_setup }
 {
-    let none = Figures {
-        committed: 0,
-        waited: 0,
-        clashes: 0,
-        retries: 0,
-        longest: 0,
-        ticks: 0,
-        waits: 0,
-    };
-    let u = no_setup();
     Tally {
         taken: false,
-        setup: u,
-        figures: [none; 64],
+        setup: no_setup(),
+        figures: [Figures::default(); 64],
     }
 }

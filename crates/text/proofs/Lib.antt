@@ -4,3 +4,5 @@ pub mod Examples
 pub mod Writing
 pub mod Answers
 pub mod Admitted
+pub mod Pushing
+pub mod Sizes

@@ -11,16 +11,12 @@
 
 use report::{Figures, OpenSession, Tally};
 use rules::{Event, Kind, Setup, Terms};
+use std::fmt;
 use std::rt::HostRuntime;
 
 // 01's setup, on m processors: priorities 10, 30, 20, periods 100, 50, 80, transactions 2, 1, 1.
 fn session_setup(m: u8) -> Setup {
-    let none = Terms {
-        priority: 0,
-        period: 0,
-        transactions: 0,
-    };
-    let mut terms = [none; 64];
+    let mut terms = [Terms::default(); 64];
     terms[0] = Terms {
         priority: 10,
         period: 100,
@@ -37,18 +33,18 @@ fn session_setup(m: u8) -> Setup {
         transactions: 1,
     };
     Setup {
-        m: m,
+        m,
         n: 3,
         mode: 0,
-        terms: terms,
+        terms,
     }
 }
 
 fn event(kind: Kind, tick: u32, task: u8, reads: u64, writes: u64) -> Event {
     Event {
-        kind: kind,
-        tick: tick,
-        task: task,
+        kind,
+        tick,
+        task,
         reads: [reads, 0, 0, 0],
         writes: [writes, 0, 0, 0],
     }
@@ -70,7 +66,7 @@ fn event_at(tick: u32) -> Event {
 }
 
 // The totals, in the sheet's order.
-#[derive(Clone, Copy)]
+#[derive(Clone, Copy, Debug, PartialEq, Eq)]
 enum Total {
     Committed,
     Waited,
@@ -78,6 +74,19 @@ enum Total {
     Retries,
     Ticks,
     Waits,
+}
+
+impl fmt::Display for Total {
+    fn fmt<W: fmt::Write>(&self, f: &mut fmt::Formatter<W>) -> fmt::Result {
+        f.write_str(match self {
+            Total::Committed => "committed",
+            Total::Waited => "waited",
+            Total::Clashes => "clashes",
+            Total::Retries => "retries",
+            Total::Ticks => "ticks",
+            Total::Waits => "waits",
+        })
+    }
 }
 
 fn value_of(f: Figures, which: Total) -> u32 {
@@ -93,74 +102,16 @@ fn value_of(f: Figures, which: Total) -> u32 {
 
 // Figures of which one total has a value, and the others are 0.
 fn figures_with(which: Total, value: u32) -> Figures {
-    let mut f = Figures {
-        committed: 0,
-        waited: 0,
-        clashes: 0,
-        retries: 0,
-        longest: 0,
-        ticks: 0,
-        waits: 0,
-    };
+    let mut f = Figures::default();
     match which {
-        Total::Committed => {
-            f.committed = value;
-        }
-        Total::Waited => {
-            f.waited = value;
-        }
-        Total::Clashes => {
-            f.clashes = value;
-        }
-        Total::Retries => {
-            f.retries = value;
-        }
-        Total::Ticks => {
-            f.ticks = value;
-        }
-        Total::Waits => {
-            f.waits = value;
-        }
+        Total::Committed => f.committed = value,
+        Total::Waited => f.waited = value,
+        Total::Clashes => f.clashes = value,
+        Total::Retries => f.retries = value,
+        Total::Ticks => f.ticks = value,
+        Total::Waits => f.waits = value,
     }
     f
-}
-
-fn same_figures(a: Figures, b: Figures) -> bool {
-    a.committed == b.committed
-        && a.waited == b.waited
-        && a.clashes == b.clashes
-        && a.retries == b.retries
-        && a.longest == b.longest
-        && a.ticks == b.ticks
-        && a.waits == b.waits
-}
-
-fn same_tally(a: Tally, b: Tally) -> bool {
-    if a.taken != b.taken {
-        return false;
-    }
-    let setup = a.setup;
-    let other = b.setup;
-    if !setup::same_setup(setup, other) {
-        return false;
-    }
-    for i in 0..64 {
-        let f = a.figures[i];
-        let g = b.figures[i];
-        if !same_figures(f, g) {
-            return false;
-        }
-    }
-    true
-}
-
-fn same_row(a: &[u32; 8], b: &[u32; 8]) -> bool {
-    for i in 0..8 {
-        if a[i] != b[i] {
-            return false;
-        }
-    }
-    true
 }
 
 // A tally and an open session.
@@ -172,72 +123,55 @@ struct Place {
 
 // The session's events before a tick, on m processors, booked.
 fn up_to(t: Tally, m: u8, tick: u32, row: &mut [u32]) -> Place {
-    let opened = tally::opening(t, session_setup(m));
-    let mut now = opened.tally;
-    let answer = opened.opened;
-    let mut after = answer.after;
+    let x = tally::opening(t, session_setup(m));
+    let mut place = Place {
+        tally: x.tally,
+        after: x.opened.after,
+    };
     for k in 0..tick {
-        let x = tally::booking(now, row, after, event_at(k));
-        let booked = x.booked;
-        now = x.tally;
-        after = booked.after;
+        let x = tally::booking(place.tally, row, place.after, event_at(k));
+        place = Place {
+            tally: x.tally,
+            after: x.booked.after,
+        };
     }
-    Place {
-        tally: now,
-        after: after,
-    }
+    place
 }
 
 // Books the event at a tick of the session on m processors into a tally in which one total of a task has a value.
-fn try_total(
-    rt: &HostRuntime,
-    name: &str,
-    which: Total,
-    task: usize,
-    value: u32,
-    m: u8,
-    tick: u32,
-) {
+fn try_total(rt: &HostRuntime, which: Total, task: usize, value: u32, m: u8, tick: u32) {
     let mut t = tally::empty();
-    if task < 64 {
-        let f = figures_with(which, value);
-        t.figures[task] = f;
+    if let Some(f) = t.figures.get_mut(task) {
+        *f = figures_with(which, value);
     }
     let mut row = [9u32; 8];
-    let place = up_to(t, m, tick, &mut row);
-    let before = place.tally;
-    let after = place.after;
+    let before = up_to(t, m, tick, &mut row);
     let row_before = row;
-    let x = tally::booking(before, &mut row, after, event_at(tick));
-    let now = x.tally;
-    let booked = x.booked;
-    let mut total: u32 = 0;
-    if task < 64 {
-        let g = now.figures[task];
-        total = value_of(g, which);
-    }
-    let same = same_tally(before, now);
-    let same_places = same_row(&row_before, &row);
-    let number = booked.number;
-    let kept = if same && same_places {
+    let x = tally::booking(before.tally, &mut row, before.after, event_at(tick));
+    let total = match x.tally.figures.get(task) {
+        Some(f) => value_of(*f, which),
+        None => 0,
+    };
+    let number = x.booked.number;
+    let kept = if x.tally == before.tally && row == row_before {
         "same"
     } else {
         "changed"
     };
-    let _ = println!(rt; "{name} {total} {number} {kept}");
+    let _ = println!(rt; "{which} {total} {number} {kept}");
 }
 
 fn main(rt: HostRuntime) {
-    try_total(&rt, "committed", Total::Committed, 2, 4294967294, 2, 7);
-    try_total(&rt, "committed", Total::Committed, 2, 4294967295, 2, 7);
-    try_total(&rt, "waited", Total::Waited, 1, 4294967294, 2, 8);
-    try_total(&rt, "waited", Total::Waited, 1, 4294967295, 2, 8);
-    try_total(&rt, "clashes", Total::Clashes, 1, 4294967293, 2, 7);
-    try_total(&rt, "clashes", Total::Clashes, 1, 4294967294, 2, 7);
-    try_total(&rt, "retries", Total::Retries, 1, 4294967293, 3, 7);
-    try_total(&rt, "retries", Total::Retries, 1, 4294967294, 3, 7);
-    try_total(&rt, "ticks", Total::Ticks, 1, 4294967291, 2, 7);
-    try_total(&rt, "ticks", Total::Ticks, 1, 4294967292, 2, 7);
-    try_total(&rt, "waits", Total::Waits, 1, 4294967294, 2, 7);
-    try_total(&rt, "waits", Total::Waits, 1, 4294967295, 2, 7);
+    try_total(&rt, Total::Committed, 2, 4_294_967_294, 2, 7);
+    try_total(&rt, Total::Committed, 2, 4_294_967_295, 2, 7);
+    try_total(&rt, Total::Waited, 1, 4_294_967_294, 2, 8);
+    try_total(&rt, Total::Waited, 1, 4_294_967_295, 2, 8);
+    try_total(&rt, Total::Clashes, 1, 4_294_967_293, 2, 7);
+    try_total(&rt, Total::Clashes, 1, 4_294_967_294, 2, 7);
+    try_total(&rt, Total::Retries, 1, 4_294_967_293, 3, 7);
+    try_total(&rt, Total::Retries, 1, 4_294_967_294, 3, 7);
+    try_total(&rt, Total::Ticks, 1, 4_294_967_291, 2, 7);
+    try_total(&rt, Total::Ticks, 1, 4_294_967_292, 2, 7);
+    try_total(&rt, Total::Waits, 1, 4_294_967_294, 2, 7);
+    try_total(&rt, Total::Waits, 1, 4_294_967_295, 2, 7);
 }

@@ -1,9 +1,16 @@
--- A session laid into words and read back, as the loops that do it go: the numbers and the states of the first tasks, and the first tasks read back.
-use Prim.Native.Nat.{ℕ, zero, suc, ◌+◌, ◌%◌, min}
-use mathlib.Core.Path.{◌≡◌, refl, sym, ◌∙◌}
+-- A session laid into words and read back, as the loops that do it go: the numbers and the states of the first tasks, and the first tasks read back; and four words
+-- copied at once.
+use Prim.Native.Nat.{ℕ, suc, ◌+◌, ◌%◌, ◌≤◌, ◌<◌, min}
+use mathlib.Core.Path.{◌≡◌, refl, sym, ap, ◌∙◌}
 use mathlib.Core.List.{List}
+use native.Mathlib.Nat.{add-zero}
 use native.Mathlib.Numerals.{add-one}
-use lib.ListN.{set}
+use native.Mathlib.Omega.{arith}
+use lib.ListN.{length, get_or, set}
+use lib.Seq.{paste}
+use borrow.Rule.Slice.PartMut.{put_mid}
+use Rattle.std.proofs.lemmas.List.Edits.{paste_none, paste_more}
+use Rattle.std.proofs.lemmas.Slice.{put_mid-paste}
 use Rattle.rules.specs.declared.Session.{Session}
 use Rattle.rules.specs.Tasks.{task_at, wait_of, with_groups}
 use Rattle.machine.specs.Places.{m_of, n_of, tick_of, accepted_of, mode_of, set_place, sets_put}
@@ -55,21 +62,18 @@ module _ (w : List ℕ) (s : Session) where
 
 -- ---- read back
 
--- the session's numbers read back; the tables are as they were
-abbrev pub numbers_back : List ℕ → Session → Session
-numbers_back w s = record {
-  m = m_of w % 256;
-  n = n_of w % 256;
-  mode = mode_of w % 256;
-  tick = tick_of w % 4294967296;
-  accepted = accepted_of w % 4294967296;
-  tasks = s.tasks;
-  reads = s.reads;
-  writes = s.writes;
-}
-
 module _ (w : List ℕ) (s : Session) where
-  pub back_none : numbers_back w s ≡ tasks_back w s 0
+  -- the session's numbers read back; the tables are as they were
+  pub back_none : record {
+    m = m_of w % 256;
+    n = n_of w % 256;
+    mode = mode_of w % 256;
+    tick = tick_of w % 4294967296;
+    accepted = accepted_of w % 4294967296;
+    tasks = s.tasks;
+    reads = s.reads;
+    writes = s.writes;
+  } ≡ tasks_back w s 0
   unfolding tasks_back
   back_none = refl
 
@@ -94,15 +98,30 @@ module _ (w : List ℕ) (s : Session) where
   pub back_more : (k : ℕ) (t u : Session) → t ≡ tasks_back w s k → u ≡ back_one t k → u ≡ tasks_back w s (k + 1)
   back_more k t u e f = rw (add-one k) (f ∙ rw e (sym (back_next k)))
 
--- it goes by the tables alone
-back_tables : (w : List ℕ) (s : Session) (k : ℕ) → tasks_back w (numbers_back w s) k ≡ tasks_back w s k
-back_tables w s zero = sym (back_none w (numbers_back w s)) ∙ back_none w s
-back_tables w s (suc k) = back_next w (numbers_back w s) k ∙ rw (back_tables w s k) (sym (back_next w s k))
+  read_is : read_back w s ≡ tasks_back w s (min (n_of w) 64)
+  unfolding read_back
+  read_is = refl
 
-read_is : (w : List ℕ) (s : Session) → read_back w s ≡ tasks_back w s (min (n_of w) 64)
-unfolding read_back
-read_is w s = refl
+  -- all tasks
+  pub back_whole : (k : ℕ) (t : Session) → k ≡ min (n_of w) 64 → t ≡ tasks_back w s k → t ≡ read_back w s
+  back_whole k t a e = e ∙ rw a (sym read_is)
 
--- all tasks
-pub back_whole : (w : List ℕ) (s : Session) (k : ℕ) (t : Session) → k ≡ min (n_of w) 64 → t ≡ tasks_back w (numbers_back w s) k → t ≡ read_back w s
-back_whole w s k t a e = e ∙ back_tables w s k ∙ rw a (sym (read_is w s))
+-- ---- four words copied
+
+-- the first four of s put into d from a place on
+pub four_pasted : (d s : List ℕ) (at : ℕ) → at + 4 ≤ length d → 4 ≤ length s
+    → paste d at s 4 ≡ set (set (set (set d at (get_or s 0 0)) (at + 1) (get_or s 1 0)) (at + 2) (get_or s 2 0)) (at + 3) (get_or s 3 0)
+four_pasted d s at l m =
+    sym (ap (λ x. set x (at + 3) (get_or s 3 0)) (ap (λ x. set x (at + 2) (get_or s 2 0)) (ap (λ x. set x (at + 1) (get_or s 1 0))
+    (first ∙ more 0 (omega arith)) ∙ more 1 (omega arith)) ∙ more 2 (omega arith)) ∙ more 3 (omega arith))
+  where
+    more : (k : ℕ) → k < 4 → set (paste d at s k) (at + k) (get_or s k 0) ≡ paste d at s (k + 1)
+    more k below = paste_more d at s k 0 (omega arith) (omega arith)
+
+    first : set d at (get_or s 0 0) ≡ set (paste d at s 0) (at + 0) (get_or s 0 0)
+    first = ap (λ x. set x at (get_or s 0 0)) (paste_none d at s) ∙ ap (λ p. set (paste d at s 0) p (get_or s 0 0)) (sym (add-zero at))
+
+-- what `d[at..at + 4]` holds after a write to it
+pub four_put : (d s : List ℕ) (at k : ℕ) → k ≡ 4 → at + 4 ≤ length d → length s ≡ 4
+    → put_mid at k d s ≡ set (set (set (set d at (get_or s 0 0)) (at + 1) (get_or s 1 0)) (at + 2) (get_or s 2 0)) (at + 3) (get_or s 3 0)
+four_put d s at k four l m = put_mid-paste at k d s s 4 refl (sym four) (sym m) ∙ four_pasted d s at l (omega arith)

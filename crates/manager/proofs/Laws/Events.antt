@@ -1,39 +1,32 @@
 -- What an event changes, with its definition one step open; that no event changes m; and what an event comes to by its number: the refusal where one is given, and else
 -- the accepted event.
-use Prim.Native.Nat.{ℕ, ◌+◌, ◌%◌, ◌<◌}
-use mathlib.Core.Path.{◌≡◌, refl, sym, ap, ◌∙◌}
-use mathlib.Core.Logic.{◌≢◌, inl}
+use Prim.Native.Nat.{ℕ, ◌+◌}
+use mathlib.Core.Path.{◌≡◌, refl, ap, ◌∙◌}
+use mathlib.Core.Logic.{inl}
 use mathlib.Core.List.{List, []}
 use mathlib.Core.Bool.{Bool, true, false, cond}
 use native.Mathlib.Omega.{arith}
 use lib.Dec.{eqb}
 use lib.ListN.{set}
-use borrow.Author.Tests.{ne_eqb}
 use Rattle.rules.specs.declared.Kind.{Kind}
 use Rattle.rules.specs.declared.Kind.TheVariants.{Arrive, Release, Commit, Finish}
 use Rattle.rules.specs.declared.Event.{Event}
 use Rattle.rules.specs.declared.Said.TheVariants.{Ok, Run}
 use Rattle.rules.specs.Events.{empty}
-use Rattle.machine.specs.declared.Reply.{Reply}
 use Rattle.machine.specs.Bits.{with_bit, without_bit}
 use Rattle.machine.specs.Places.{m_of, plain_of, waiting_of, executing_of, row_held, rank_place, number_place, releases_at, sets_put}
 use Rattle.machine.specs.Asked.{blocked_in, wait_said_in}
-use Rattle.machine.specs.Ranks.{ranks_moved, rank_given}
 use Rattle.machine.specs.Row.{row_put}
-use Rattle.machine.specs.Events.{arrive_number_in, finish_number_in, release_number_in, commit_number_in, Outcome, saying, refused_in, still_in, scanning_in, stamped_in, turns_plain, arrived_in, arrive_in, released_in, runs_in, waits_in, release_accepted_in, release_in, raised_in, busy_in, committed_in, commit_in, finished_in, finish_in, step_in}
+use Rattle.machine.specs.Events.{arrive_number_in, finish_number_in, release_number_in, commit_number_in, Outcome, refused_in, still_in, scanning_in, stamped_in, arrived_in, arrive_in, begun_in, released_in, runs_in, waits_in, release_accepted_in, release_in, raised_in, busy_in, committed_in, commit_in, finished_in, finish_in, step_in}
 use Rattle.machine.proofs.Laws.Places.{kept, sets_before}
 use Rattle.machine.proofs.Laws.RowPut.{row_put_kept}
 use Rattle.machine.proofs.Laws.Raised.{raised_aside, aside_low}
 use Rattle.placing.proofs.Laws.Tasks.{task_mod}
 use Rattle.manager.proofs.Laws.Places.{beside_two}
+use Rattle.rules.proofs.Laws.Refusals.{refusal_not_0}
+use Rattle.manager.proofs.Laws.Numbers.{arrive_passed, release_passed, commit_passed, finish_passed}
 
 -- ---- what an event changes
-
--- a job that is put among the ranks last, at its rank
-pub arrived_last : (w v u : List ℕ) (tick i rank : ℕ) → i < 64 → u ≡ ranks_moved (set v (rank_place i) rank) (i % 64) → rank ≡ rank_given v tick i → v ≡ turns_plain w tick i
-    → u ≡ arrived_in w tick i
-unfolding arrived_in
-arrived_last w v u tick i rank li moved given plain = moved ∙ rw (task_mod i li, given, plain)
 
 pub released_is : (w : List ℕ) (tick i : ℕ) (reads writes : List ℕ)
     → released_in w tick i reads writes
@@ -76,14 +69,13 @@ committed_m w tick i =
     ∙ stamped_m (raised_in w i (busy_in w) (row_held w)) tick
     ∙ raised_aside w i (busy_in w) (row_held w) 0 (aside_low 0 (omega arith))
 
-released_m : (w : List ℕ) (tick i : ℕ) (reads writes : List ℕ) → m_of (released_in w tick i reads writes) ≡ m_of w
-released_m w tick i reads writes =
-    ap m_of (released_is w tick i reads writes)
-    ∙ sets_before (set (set (stamped_in w tick) 4 (without_bit (plain_of w) i)) (number_place i 4) (releases_at w i + 1)) i reads writes 0 (omega arith)
-    ∙ beside_two (stamped_in w tick) 4 (number_place i 4) 0 _ _ (omega arith) (omega arith)
-    ∙ stamped_m w tick
+pub begun_m : (w : List ℕ) (tick i : ℕ) → m_of (begun_in w tick i) ≡ m_of w
+begun_m w tick i = beside_two (stamped_in w tick) 4 (number_place i 4) 0 _ _ (omega arith) (omega arith) ∙ stamped_m w tick
 
-waits_m : (w : List ℕ) (tick i : ℕ) → m_of (waits_in w tick i) ≡ m_of w
+pub sets_m : (w : List ℕ) (i : ℕ) (reads writes : List ℕ) → m_of (sets_put w i reads writes) ≡ m_of w
+sets_m w i reads writes = sets_before w i reads writes 0 (omega arith)
+
+pub waits_m : (w : List ℕ) (tick i : ℕ) → m_of (waits_in w tick i) ≡ m_of w
 waits_m w tick i =
     let u = set (set w 5 (with_bit (waiting_of w) i)) (number_place i 5) tick in
     ap m_of (waits_is w tick i)
@@ -91,95 +83,48 @@ waits_m w tick i =
     ∙ beside_two u (number_place i 6) (number_place i 7) 0 0 0 (omega arith) (omega arith)
     ∙ beside_two w 5 (number_place i 5) 0 _ tick (omega arith) (omega arith)
 
-pub released_waits_m : (w : List ℕ) (tick i : ℕ) (reads writes : List ℕ) → m_of (waits_in (released_in w tick i reads writes) tick i) ≡ m_of w
-released_waits_m w tick i reads writes = waits_m (released_in w tick i reads writes) tick i ∙ released_m w tick i reads writes
-
 -- ---- what an event comes to, by its number
 
 -- what is accepted where the number is 0, and else refused
 abbrev pub answering : ℕ → List ℕ → List ℕ → Outcome → Outcome
 answering number w list accepts = cond (eqb number 0) accepts (refused_in w list number)
 
-answer_refused : (number : ℕ) (w list : List ℕ) (accepts : Outcome) (k : ℕ) → k ≡ number → k ≢ 0 → answering number w list accepts ≡ refused_in w list k
-answer_refused number w list accepts k e h = rw (← e, ne_eqb k 0 h)
-
-answer_accepted : (number : ℕ) (w list : List ℕ) (accepts : Outcome) (k : ℕ) → k ≡ number → k ≡ 0 → answering number w list accepts ≡ accepts
-answer_accepted number w list accepts k e z = rw (← e, z)
-
 module _ (w list : List ℕ) (tick i : ℕ) where
-  arrive_is : arrive_in w list tick i ≡ answering (arrive_number_in w tick i) w list (still_in Ok (arrived_in w tick i) list)
+  pub arrive_is : arrive_in w list tick i ≡ answering (arrive_number_in w tick i) w list (still_in Ok (arrived_in w tick i) list)
   unfolding arrive_in
   arrive_is = refl
 
-  commit_is : commit_in w list tick i ≡ answering (commit_number_in w tick i) w list (scanning_in Ok (committed_in w tick i) list)
+  pub commit_is : commit_in w list tick i ≡ answering (commit_number_in w tick i) w list (scanning_in Ok (committed_in w tick i) list)
   unfolding commit_in
   commit_is = refl
 
-  finish_is : finish_in w list tick i ≡ answering (finish_number_in w tick i) w list (scanning_in Ok (finished_in w tick i) list)
+  pub finish_is : finish_in w list tick i ≡ answering (finish_number_in w tick i) w list (scanning_in Ok (finished_in w tick i) list)
   unfolding finish_in
   finish_is = refl
 
-  module _ (k : ℕ) where
-    pub arrive_refused : k ≡ arrive_number_in w tick i → k ≢ 0 → arrive_in w list tick i ≡ refused_in w list k
-    arrive_refused e h = arrive_is ∙ answer_refused (arrive_number_in w tick i) w list (still_in Ok (arrived_in w tick i) list) k e h
-
-    pub arrive_accepted : k ≡ arrive_number_in w tick i → k ≡ 0 → arrive_in w list tick i ≡ still_in Ok (arrived_in w tick i) list
-    arrive_accepted e z = arrive_is ∙ answer_accepted (arrive_number_in w tick i) w list (still_in Ok (arrived_in w tick i) list) k e z
-
-    pub commit_refused : k ≡ commit_number_in w tick i → k ≢ 0 → commit_in w list tick i ≡ refused_in w list k
-    commit_refused e h = commit_is ∙ answer_refused (commit_number_in w tick i) w list (scanning_in Ok (committed_in w tick i) list) k e h
-
-    pub commit_accepted : k ≡ commit_number_in w tick i → k ≡ 0 → commit_in w list tick i ≡ scanning_in Ok (committed_in w tick i) list
-    commit_accepted e z = commit_is ∙ answer_accepted (commit_number_in w tick i) w list (scanning_in Ok (committed_in w tick i) list) k e z
-
-    pub finish_refused : k ≡ finish_number_in w tick i → k ≢ 0 → finish_in w list tick i ≡ refused_in w list k
-    finish_refused e h = finish_is ∙ answer_refused (finish_number_in w tick i) w list (scanning_in Ok (finished_in w tick i) list) k e h
-
-    pub finish_accepted : k ≡ finish_number_in w tick i → k ≡ 0 → finish_in w list tick i ≡ scanning_in Ok (finished_in w tick i) list
-    finish_accepted e z = finish_is ∙ answer_accepted (finish_number_in w tick i) w list (scanning_in Ok (finished_in w tick i) list) k e z
-
   module _ (reads writes : List ℕ) where
-    release_is : release_in w list tick i reads writes ≡ answering (release_number_in w tick i) w list (release_accepted_in w list tick i reads writes)
+    pub release_is : release_in w list tick i reads writes ≡ answering (release_number_in w tick i) w list (release_accepted_in w list tick i reads writes)
     unfolding release_in
     release_is = refl
 
-    accepted_is : let v = released_in w tick i reads writes in
+    pub accepted_is : let v = released_in w tick i reads writes in
         release_accepted_in w list tick i reads writes
         ≡ cond (blocked_in v i) (scanning_in (wait_said_in v i) (waits_in v tick i) list) (still_in Run (runs_in v i) list)
     unfolding release_accepted_in
     accepted_is = refl
 
-    module _ (k : ℕ) (e : k ≡ release_number_in w tick i) where
-      pub release_refused : k ≢ 0 → release_in w list tick i reads writes ≡ refused_in w list k
-      release_refused h = release_is ∙ answer_refused (release_number_in w tick i) w list (release_accepted_in w list tick i reads writes) k e h
-
-      -- it runs
-      pub release_runs : (v : List ℕ) → v ≡ released_in w tick i reads writes → k ≡ 0 → blocked_in v i ≡ false
-          → release_in w list tick i reads writes ≡ still_in Run (runs_in v i) list
-      release_runs v f z b =
-          release_is ∙ answer_accepted (release_number_in w tick i) w list (release_accepted_in w list tick i reads writes) k e z ∙ accepted_is ∙ rw (← f, b)
-
-      -- it waits
-      pub release_waits : (v : List ℕ) → v ≡ released_in w tick i reads writes → k ≡ 0 → blocked_in v i ≡ true
-          → release_in w list tick i reads writes ≡ scanning_in (wait_said_in v i) (waits_in v tick i) list
-      release_waits v f z b =
-          release_is ∙ answer_accepted (release_number_in w tick i) w list (release_accepted_in w list tick i reads writes) k e z ∙ accepted_is ∙ rw (← f, b)
-
 -- ---- an event by its kind
 
--- what an event of this kind comes to
+-- what an event of each kind comes to
 abbrev pub outcome_of : List ℕ → List ℕ → Event → Kind → Outcome
-outcome_of w list e kind =
-    elim kind [
-      | Arrive ↦ arrive_in w list e.tick e.task
-      | Release ↦ release_in w list e.tick e.task e.reads e.writes
-      | Commit ↦ commit_in w list e.tick e.task
-      | Finish ↦ finish_in w list e.tick e.task
-    ]
+outcome_of w list e Arrive = arrive_in w list e.tick e.task
+outcome_of w list e Release = release_in w list e.tick e.task e.reads e.writes
+outcome_of w list e Commit = commit_in w list e.tick e.task
+outcome_of w list e Finish = finish_in w list e.tick e.task
 
-pub step_is : (w list : List ℕ) (e : Event) (kind : Kind) → e.kind ≡ kind → outcome_of w list e kind ≡ step_in w list e
+pub step_is : (w list : List ℕ) (e : Event) → step_in w list e ≡ outcome_of w list e e.kind
 unfolding step_in
-step_is w list e kind same = sym (ap (outcome_of w list e) same)
+step_is w list e = refl
 
 -- an arrival lists nothing: the list is no part of what is said and left
 pub arrive_lists : (w list : List ℕ) (tick i : ℕ)
@@ -199,8 +144,14 @@ arrive_lists w list tick i =
     go number true = refl
     go number false = refl
 
--- ---- what a function says and leaves, by what it comes to
+-- ---- what each event's proof rests on
 
-pub comes_to : (x y : Outcome) → x ≡ y → (r : Reply) (words list : List ℕ) → r ≡ saying x → words ≡ x.words → list ≡ x.list
-    → (r ≡ saying y) × (words ≡ y.words) × (list ≡ y.list)
-comes_to x y e r words list says leaves lists = rw (← e) (says, leaves, lists)
+pub ruleset arriving = (arrive_is, refusal_not_0, arrive_passed)
+
+pub ruleset releasing = (release_is, accepted_is, released_is, refusal_not_0, release_passed, task_mod)
+
+pub ruleset committing = (commit_is, refusal_not_0, commit_passed, committed_m)
+
+pub ruleset finishing = (finish_is, refusal_not_0, finish_passed, finished_m)
+
+pub ruleset stepping = (step_is, arrive_lists)

@@ -1,18 +1,35 @@
 -- The scan as its loop goes: how far it has come after the places that are passed, and what a turn makes of it.
-use Prim.Native.Nat.{ℕ, suc, ◌+◌, ◌-◌, ◌≤◌, ◌<◌}
-use mathlib.Core.Path.{◌≡◌, refl, sym, ◌∙◌}
-use mathlib.Core.List.{List}
+use Prim.Native.Nat.{ℕ, zero, suc, ◌+◌, ◌-◌, ◌*◌, ◌≤◌, ◌<◌}
+use mathlib.Core.Path.{◌≡◌, refl, sym, ap, ◌∙◌}
+use mathlib.Core.List.{List, [], ◌∷◌}
 use mathlib.Core.Bool.{Bool, true, false, cond, not, ◌&&◌}
 use native.Mathlib.Numerals.{add-one}
 use native.Mathlib.Nat.{sub-le}
 use native.Mathlib.Omega.{arith}
 use lib.Dec.{ltb}
-use lib.ListN.{set}
+use lib.ListN.{length, set}
+use borrow.Rule.Slice.PartMut.{put_mid}
 use borrow.Author.Tests.{ltb-true}
 use Rattle.machine.specs.Bits.{ones, common}
 use Rattle.machine.specs.Places.{m_of, plain_of, executing_of, above_of, row_at, row_held, row_task, clashes_at, retries_at, release_at}
 use Rattle.machine.specs.Asked.{left_in, room_in, blocked_in}
 use Rattle.machine.specs.Row.{Scan, list_put, executes_in, admit_in, keep_in, look_at, look_to, scan_from, scan_in}
+
+-- ---- the four numbers of an admission
+
+-- four numbers written over four places in one go stand where they would if they were written one by one
+four_put : (list : List ℕ) (at a b c d : ℕ) → at + 4 ≤ length list
+    → put_mid at 4 list (a ∷ b ∷ c ∷ d ∷ []) ≡ set (set (set (set list at a) (suc at) b) (suc (suc at)) c) (suc (suc (suc at))) d
+four_put [] at a b c d l = absurd (omega arith)
+four_put (w ∷ []) zero a b c d l = absurd (omega arith)
+four_put (w ∷ x ∷ []) zero a b c d l = absurd (omega arith)
+four_put (w ∷ x ∷ y ∷ []) zero a b c d l = absurd (omega arith)
+four_put (w ∷ x ∷ y ∷ z ∷ list) zero a b c d l = refl
+four_put (x ∷ list) (suc at) a b c d l = ap (λ (xs : List ℕ). x ∷ xs) (four_put list at a b c d (omega arith))
+
+pub listed : (list : List ℕ) (k size i clashes retries release : ℕ) → k < 16 → length list ≡ 64 → size ≡ 4
+    → put_mid (k * 4) size list (i ∷ clashes ∷ retries ∷ release ∷ []) ≡ list_put list k i clashes retries release
+listed list k size i clashes retries release l e f = rw f (grind (arith, four_put list (k * 4) i clashes retries release (omega arith)))
 
 -- ---- the definitions, one step open
 

@@ -6,9 +6,13 @@ use mathlib.Core.List.{List}
 use mathlib.Core.Bool.{Bool, true, false, cond, ◌||◌}
 use lib.Dec.{eqb, leb}
 use lib.ListN.{length}
+use Rattle.std.specs.Prelude.{Ok, Err}
 use borrow.Author.Tests.{eq-eqb, ne_eqb, eqb-true}
 use Rattle.objects.proofs.Laws.Below.{not_both}
-use Rattle.logs.specs.Order.{whole_log}
+use Rattle.rules.specs.declared.Refusal.{Refusal}
+use Rattle.rules.specs.Refusals.{refusal_number}
+use Rattle.rules.proofs.Laws.Refusals.{refusal_not_0, refusal_back}
+use Rattle.logs.specs.Order.{whole_log, whole_number}
 use Rattle.moving.specs.Logs.{converted}
 use Rattle.moving.specs.Convert.{copied_kind, over, start_reading, copying, moved_bytes, convert_number, converts, converted_into}
 use Rattle.moving.proofs.Moved.{converter_converts}
@@ -17,29 +21,29 @@ use Rattle.moving.proofs.Laws.Fitting.{all_copied}
 module _ (wanted : ℕ) (s : List ℕ) where
   -- ---- the number
 
-  pub number_bad : (room : ℕ) → (whole_log s).number ≢ 0 → convert_number wanted s room ≡ (whole_log s).number
+  pub number_bad : (room : ℕ) → whole_number (whole_log s) ≢ 0 → convert_number wanted s room ≡ whole_number (whole_log s)
   unfolding convert_number
-  number_bad room n = rw (ne_eqb (whole_log s).number 0 n)
+  number_bad room n = rw (ne_eqb (whole_number (whole_log s)) 0 n)
 
-  module _ (room : ℕ) (z : (whole_log s).number ≡ 0) where
+  module _ (room : ℕ) (z : whole_number (whole_log s) ≡ 0) where
     pub number_kind : (eqb wanted 3 || eqb wanted 8) ≡ false → convert_number wanted s room ≡ 21
     unfolding convert_number
-    number_kind k = rw (eq-eqb (whole_log s).number 0 z, k)
+    number_kind k = rw (eq-eqb (whole_number (whole_log s)) 0 z, k)
 
     module _ (k : (eqb wanted 3 || eqb wanted 8) ≡ true) where
       pub number_room : {b : Bool} → leb (length (converted wanted s)) room ≡ b → convert_number wanted s room ≡ cond b 0 28
       unfolding convert_number
-      number_room l = rw (eq-eqb (whole_log s).number 0 z, k, l)
+      number_room l = rw (eq-eqb (whole_number (whole_log s)) 0 z, k, l)
 
   -- ---- what is answered and left
 
-  pub answers_no : (buf : List ℕ) (number : ℕ) → convert_number wanted s (length buf) ≡ number → number ≢ 0
-      → (converts wanted s (length buf) ≡ record { number = number; size = 0 }) × (converted_into wanted s buf ≡ buf)
+  pub answers_no : (buf : List ℕ) (refusal : Refusal) → convert_number wanted s (length buf) ≡ refusal_number refusal
+      → (converts wanted s (length buf) ≡ Err refusal) × (converted_into wanted s buf ≡ buf)
   unfolding converts converted_into
-  answers_no buf number e n = rw (e, ne_eqb number 0 n) (refl, refl)
+  answers_no buf refusal e = rw (e, ne_eqb (refusal_number refusal) 0 (refusal_not_0 refusal), refusal_back refusal) (refl, refl)
 
   pub answers_yes : (buf : List ℕ) → convert_number wanted s (length buf) ≡ 0
-      → (converts wanted s (length buf) ≡ record { number = 0; size = length (converted wanted s) }) × (converted_into wanted s buf ≡ over (converted wanted s) buf)
+      → (converts wanted s (length buf) ≡ Ok (length (converted wanted s))) × (converted_into wanted s buf ≡ over (converted wanted s) buf)
   unfolding converts converted_into
   answers_yes buf e = rw e (refl, refl)
 
@@ -54,10 +58,10 @@ module _ (wanted : ℕ) (s : List ℕ) where
       go true false p q e = sym (p refl)
       go false false p q e = absurd (not_both false e refl)
 
-  pub moved_is : (whole_log s).number ≡ 0 → (eqb wanted 3 || eqb wanted 8) ≡ true → moved_bytes (copied_kind wanted) start_reading s ≡ converted wanted s
+  pub moved_is : whole_number (whole_log s) ≡ 0 → (eqb wanted 3 || eqb wanted 8) ≡ true → moved_bytes (copied_kind wanted) start_reading s ≡ converted wanted s
   moved_is z k = rw (kind_same k) (converter_converts wanted s z)
 
-  pub copied_is : (room : ℕ) → (whole_log s).number ≡ 0 → (eqb wanted 3 || eqb wanted 8) ≡ true → length (converted wanted s) ≤ room
+  pub copied_is : (room : ℕ) → whole_number (whole_log s) ≡ 0 → (eqb wanted 3 || eqb wanted 8) ≡ true → length (converted wanted s) ≤ room
       → (copying (copied_kind wanted) start_reading s true room).out ≡ converted wanted s
   copied_is room z k l =
       let e = moved_is z k in

@@ -9,7 +9,7 @@ use native.Mathlib.Nat.{le_trans, le_of_eq, lt_of_lt_of_le, not-suc-le_self}
 use lib.ListN.{length, get_or}
 use Rattle.objects.specs.Below.{count}
 use Rattle.rules.specs.declared.State.TheVariants.{Executing}
-use Rattle.rules.specs.declared.Arrival.TheVariants.{At}
+use Rattle.std.specs.Prelude.{Some}
 use Rattle.rules.specs.declared.Task.{Task}
 use Rattle.rules.specs.declared.Session.{Session}
 use Rattle.rules.specs.Ranking.{Ranking, Strict, Stays}
@@ -35,7 +35,7 @@ pub record Almost (s : Session) : Type 0 where
   pub fit : count s.n (executing s) ≤ s.m
   pub releases : (i : ℕ) → i < s.n → (task_at s i).releases ≤ (task_at s i).terms.transactions
   pub clashes : (i : ℕ) → i < s.n → (wait_of (state_at s i)).clashes ≤ s.accepted
-  pub arrivals : (i a : ℕ) → i < s.n → (task_at s i).arrival ≡ At a → a ≤ s.tick
+  pub arrivals : (i a : ℕ) → i < s.n → (task_at s i).arrival ≡ Some a → a ≤ s.tick
   pub accepted : s.accepted ≤ 1000000
   pub present : (i : ℕ) → i < s.n → is_absent (state_at s i) ≡ false → Job s.mode (task_at s i)
   pub emptied : (i g : ℕ) → i < 64 → g < 4 → waiting s i ≡ false → executing s i ≡ false → EmptyAt s i g
@@ -96,7 +96,7 @@ module _ (s s' : Session) (kept : Kept s s') where
         le_trans (each_kept (λ (t : Task). (wait_of t.state).clashes ≤ s.accepted) i (a.clashes i (below_kept i l)) (λ b w. zero-le))
         (le_of_eq (sym kept.accepted));
     arrivals = λ i x l e.
-        le_trans (each_kept (λ (t : Task). t.arrival ≡ At x → x ≤ s.tick) i (a.arrivals i x (below_kept i l)) (λ b w. a.arrivals i x b) e)
+        le_trans (each_kept (λ (t : Task). t.arrival ≡ Some x → x ≤ s.tick) i (a.arrivals i x (below_kept i l)) (λ b w. a.arrivals i x b) e)
         (le_of_eq (sym kept.tick));
     accepted = le_trans (le_of_eq kept.accepted) a.accepted;
     present = λ i l.

@@ -18,7 +18,7 @@ use Rattle.objects.proofs.Laws.Clash.{clash_sym}
 use Rattle.rules.specs.declared.Wait.{Wait}
 use Rattle.rules.specs.declared.State.{State}
 use Rattle.rules.specs.declared.State.TheVariants.{Waiting}
-use Rattle.rules.specs.declared.Arrival.TheVariants.{At}
+use Rattle.std.specs.Prelude.{Some}
 use Rattle.rules.specs.declared.Task.{Task}
 use Rattle.rules.specs.declared.Session.{Session}
 use Rattle.rules.specs.Ranking.{Ranking, Strict, Stays}
@@ -65,7 +65,7 @@ pub record Fine (s : Session) (i : ℕ) (t : Task) (s' : Session) : Type 0 where
   pub terms : t.terms ≡ (task_at s i).terms
   pub releases : t.releases ≤ t.terms.transactions
   pub clashes : (wait_of t.state).clashes ≤ s.accepted + 1
-  pub arrivals : (a : ℕ) → t.arrival ≡ At a → a ≤ s'.tick
+  pub arrivals : (a : ℕ) → t.arrival ≡ Some a → a ≤ s'.tick
   pub present : is_absent t.state ≡ false → Job s.mode t
   pub emptied : (g : ℕ) → g < 4 → is_waiting t.state ≡ false → is_executing t.state ≡ false → EmptyAt s' i g
   pub gone : is_absent t.state ≡ true → (t.releases ≡ 0) × (t.rank ≡ 0)
@@ -171,7 +171,7 @@ module _ {rank : Ranking} {s : Session} (sound : Sound rank s) {at i rest : ℕ}
           everywhere (λ (j : ℕ) (x : Task). j < s.n → (wait_of x.state).clashes ≤ s.accepted + 1) (λ l. fine.clashes)
           (λ j d l. omega (arith, alike_clashes (task_at s j) (task_at s' j) (other j d), sound.clashes j l));
       arrivals = λ j a.
-          everywhere (λ (j : ℕ) (x : Task). j < s.n → x.arrival ≡ At a → a ≤ at) (λ l. fine.arrivals a)
+          everywhere (λ (j : ℕ) (x : Task). j < s.n → x.arrival ≡ Some a → a ≤ at) (λ l. fine.arrivals a)
           (λ j d l e. le_trans (sound.arrivals j a l (sym (alike_arrival (task_at s j) (task_at s' j) (other j d)) ∙ e)) timely.tick) j;
       accepted = timely.accepted;
       present =

@@ -18,6 +18,10 @@ abbrev chosen : List ℕ → ℕ → Bool → ℕ → ℕ
 chosen w k has best = cond (has && (eqb best 64 || bit (above_of w best) k)) k best
 
 module _ (w : List ℕ) (f : ℕ → Bool) where
+  pub foremost_none : foremost w f 0 ≡ 64
+  unfolding foremost
+  foremost_none = refl
+
   pub foremost_more : (k : ℕ)
       → let best = foremost w f k in
       foremost w f (k + 1) ≡ cond (f k && (eqb best 64 || bit (above_of w best) k)) k best

@@ -1,13 +1,14 @@
 -- A session laid into words, one event, and the session read back: the answer is the rules'.
-use Prim.Native.Nat.{ℕ, zero, suc, ◌%◌, ◌^◌, ◌≤◌, ◌<◌, min}
-use mathlib.Core.Path.{◌≡◌, sym, ap, ap₂, ◌∙◌}
+use Prim.Native.Nat.{ℕ, zero, suc, ◌+◌, ◌%◌, ◌^◌, ◌≤◌, ◌<◌, min}
+use mathlib.Core.Path.{◌≡◌, refl, sym, ap, ap₂, ◌∙◌}
 use mathlib.Core.Logic.{inl, inr}
 use mathlib.Core.List.{List}
 use mathlib.Core.Bool.{cond, and-false}
 use lib.Dec.{eqb}
 use native.Mathlib.Nat.{lt_of_lt_of_le, ne_of_lt, mod-eq_of_lt}
+use native.Mathlib.Numerals.{add-one}
 use native.Mathlib.Omega.{arith}
-use lib.ListN.{length, get_or, length-replicate, length-set}
+use lib.ListN.{set, length, get_or, length-replicate, length-set}
 use lib.Seq.{get_or-set_same, get_or-set_other, ext_get_or}
 use Rattle.objects.proofs.Laws.Below.{below_suc, below_or_from}
 use Rattle.rules.specs.declared.Admission.{Admission}
@@ -17,7 +18,7 @@ use Rattle.rules.specs.declared.Event.{Event}
 use Rattle.rules.specs.declared.Answer.{Answer}
 use Rattle.rules.specs.declared.Said.{Said}
 use Rattle.rules.specs.Ranking.{by_rank}
-use Rattle.rules.specs.Scan.{no_admission}
+use Rattle.rules.specs.Scan.{no_admission, none}
 use Rattle.rules.specs.Listed.{admission_at}
 use Rattle.rules.specs.Tasks.{allowed}
 use Rattle.rules.specs.Events.{trying, arrive_number, release_number, commit_number, finish_number, refused, arrive, release, commit, finish, step}
@@ -36,6 +37,15 @@ use Rattle.machine.proofs.Lists.{no_place, step_sixteen, step_lists}
 use Rattle.session.specs.Listed.{admission_in, first_of, admissions_in}
 
 -- ---- the admissions of a list
+
+-- before the first place, and one place more
+pub first_none : (list : List ℕ) → first_of list 0 ≡ none.list
+unfolding first_of
+first_none list = refl
+
+pub first_more : (list : List ℕ) (k : ℕ) → first_of list (k + 1) ≡ set (first_of list k) k (admission_in list k)
+unfolding first_of
+first_more list k = ap (first_of list) (add-one k)
 
 -- the first k places of the answer are those of the list, and the others are empty
 first_size : (list : List ℕ) (k : ℕ) → length (first_of list k) ≡ 16

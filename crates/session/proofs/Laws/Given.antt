@@ -12,8 +12,7 @@ use denote.Struct.Declared.{row}
 use Rattle.rules.specs.declared.Wait.{Wait}
 use Rattle.rules.specs.declared.State.{State}
 use Rattle.rules.specs.declared.State.TheVariants.{Absent, Plain, Waiting, Executing}
-use Rattle.rules.specs.declared.Arrival.{Arrival}
-use Rattle.rules.specs.declared.Arrival.TheVariants.{Never, At}
+use Rattle.std.specs.Prelude.{Option, None, Some}
 use Rattle.rules.specs.declared.Task.{Task}
 use Rattle.rules.specs.declared.Session.{Session}
 use Rattle.rules.specs.Tasks.{wait_of, no_task}
@@ -37,7 +36,7 @@ Told ts us = shadow (each (task.the_row).Denot (task.the_row).own_val ts us)
 abbrev with_state : Task → State → Task
 with_state t r = record { terms = t.terms; state = r; arrival = t.arrival; releases = t.releases; rank = t.rank }
 
-abbrev with_arrival : Task → Arrival → Task
+abbrev with_arrival : Task → Option ℕ → Task
 with_arrival t a = record { terms = t.terms; state = t.state; arrival = a; releases = t.releases; rank = t.rank }
 
 record WaitFits (v : Wait) : Type 0 where
@@ -55,9 +54,9 @@ module _ (t : Task) (ts : List Task) (u : Val) (us : List Val) where
       record { release = q.0.1; clashes = q.1.0.1; retries = q.1.1.0.1 }
   state_fits Executing p = record { release = omega arith; clashes = omega arith; retries = omega arith }
 
-  arrival_fits : (a : Arrival) → Told (with_arrival t a ∷ ts) (u ∷ us) → (tick : ℕ) → a ≡ At tick → tick < 2 ^ 32
-  arrival_fits Never p tick e = let z : ◌≡◌ {A = ℕ} 0 1 = cc in absurd (omega arith)
-  arrival_fits (At now) p tick e =
+  arrival_fits : (a : Option ℕ) → Told (with_arrival t a ∷ ts) (u ∷ us) → (tick : ℕ) → a ≡ Some tick → tick < 2 ^ 32
+  arrival_fits None p tick e = let z : ◌≡◌ {A = ℕ} 0 1 = cc in absurd (omega arith)
+  arrival_fits (Some now) p tick e =
       let fits : now < 2 ^ 32 = p.0.1.1.1.1.0.1.1.1.1.0.1 in
       let same : now ≡ tick = cc in
       rw same at fits

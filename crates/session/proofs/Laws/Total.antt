@@ -1,21 +1,19 @@
 -- The sum of the other tasks' shares: one task more at a time, and how large a share can be, so that no sum of them wraps.
-use Prim.Native.Nat.{ℕ, ◌+◌, ◌/◌, ◌≤◌, ◌<◌}
-use mathlib.Core.Path.{◌≡◌, sym, ◌∙◌}
-use mathlib.Core.Logic.{◌≢◌}
+use Prim.Native.Nat.{ℕ, ◌+◌, ◌*◌, ◌/◌, ◌^◌, ◌≤◌, ◌<◌}
+use mathlib.Core.Path.{◌≡◌}
 use mathlib.Core.Bool.{cond}
 use native.Mathlib.Nat.{mul-le-mul, div-le_self}
 use native.Mathlib.Omega.{arith}
 use lib.Dec.{eqb}
-use borrow.Author.Tests.{eq-eqb, ne_eqb}
 use Rattle.objects.specs.Below.{sum}
-use Rattle.objects.proofs.Laws.Below.{sum_more}
+use Rattle.objects.proofs.Laws.Below.{sum_empty, sum_more}
 use Rattle.rules.specs.declared.Terms.{Terms}
 use Rattle.rules.specs.declared.Session.{Session}
 use Rattle.rules.specs.Tasks.{task_at}
 use Rattle.rules.specs.Sum.{share}
 
 -- the most that a share can be: 255 transactions, and a period of 1 in the longest wait
-pub share_most : (length : ℕ) (t : Terms) → length < 4294967296 → t.transactions < 256 → share length t ≤ 1095216660735
+pub share_most : (length : ℕ) (t : Terms) → length < 2 ^ 32 → t.transactions < 256 → share length t ≤ 255 * (2 ^ 32 + 1)
 share_most length t l k =
     let few : t.transactions ≤ 255 = omega arith in
     let long : length / t.period + 2 ≤ 4294967297 = omega (arith, div-le_self length t.period) in
@@ -26,14 +24,10 @@ abbrev pub others : Session → ℕ → ℕ → ℕ → ℕ
 others s i length j = cond (eqb j i) 0 (share length (task_at s j).terms)
 
 module _ (s : Session) (i length : ℕ) where
-  -- one task more, where it is another
-  pub more_other : (j total : ℕ) → total ≡ sum j (others s i length) → j ≢ i
-      → total + share length (task_at s j).terms ≡ sum (j + 1) (others s i length)
-  more_other j total e d =
-      rw e (sym (sum_more j (others s i length) ∙ rw (ne_eqb j i d)))
+  -- no task
+  pub total_none : sum 0 (others s i length) ≡ 0
+  total_none = sum_empty (others s i length)
 
-  -- and where it is the one that is left out
-  pub more_own : (j total : ℕ) → total ≡ sum j (others s i length) → j ≡ i → total ≡ sum (j + 1) (others s i length)
-  more_own j total e p =
-      let none : others s i length j ≡ 0 = rw (eq-eqb j i p) in
-      omega (arith, sum_more j (others s i length))
+  -- one task more
+  pub total_more : (j : ℕ) → sum (j + 1) (others s i length) ≡ sum j (others s i length) + others s i length j
+  total_more j = sum_more j (others s i length)

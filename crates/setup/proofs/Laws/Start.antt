@@ -1,22 +1,22 @@
--- The laws of a setup: the number that its tasks give and the fresh tasks, one task more at a time; its answer by its number; and when two setups are equal.
-use Prim.Native.Nat.{ℕ, zero, suc, ◌+◌, ◌≤◌, ◌<◌}
-use mathlib.Core.Path.{◌≡◌, refl}
+-- The laws of a setup: the number that its tasks give and the fresh tasks, one task more at a time; its answer by its number; and when the first of two lists are equal.
+use Prim.Native.Nat.{ℕ, zero, suc, ◌+◌, ◌<◌}
+use mathlib.Core.Path.{◌≡◌, refl, sym, ap, ◌∙◌}
 use mathlib.Core.Logic.{◌≢◌, ◌⊎◌, inl, inr}
-use mathlib.Core.Bool.{true, false, ◌&&◌}
+use mathlib.Core.List.{List, [], ◌∷◌}
+use mathlib.Core.Bool.{Bool, true, ◌&&◌}
 use native.Mathlib.Nat.{not-suc-le-zero}
 use native.Mathlib.Numerals.{add-one}
 use native.Mathlib.Omega.{arith}
-use lib.Dec.{eqb}
-use lib.ListN.{length, set, get_or-eq_default}
-use borrow.Author.Tests.{eq-eqb, ne_eqb}
+use lib.ListN.{length, get_or, take, set}
+use lib.Pointwise.{pointwise}
+use borrow.Author.Tests.{ne_eqb}
 use Rattle.objects.specs.Below.{all}
-use Rattle.objects.proofs.Laws.Below.{below_suc, below_or_from, and_both, not_true_false, all_from}
+use Rattle.objects.proofs.Laws.Below.{below_suc, all_empty, all_first, all_from}
 use Rattle.rules.specs.declared.Setup.{Setup}
 use Rattle.rules.specs.declared.Said.TheVariants.{Ok, No}
 use Rattle.rules.specs.Ranking.{known_mode}
-use Rattle.rules.specs.Tasks.{allowed, fresh_task, no_terms}
-use Rattle.rules.specs.Setup.{terms_at, terms_number, first_number, setup_number, fresh_tasks, fresh, no_session, start, same_terms, same_setup}
-use Rattle.rules.proofs.Start.{Same, same_parts}
+use Rattle.rules.specs.Tasks.{allowed, fresh_task}
+use Rattle.rules.specs.Setup.{terms_at, terms_number, first_number, setup_number, fresh_tasks, fresh, no_session, start}
 
 -- ---- the number
 
@@ -55,28 +55,18 @@ pub start_accepted : (u : Setup) → setup_number u ≡ 0 → start u ≡ record
 unfolding start
 start_accepted u e = rw e
 
--- ---- equal setups
+-- ---- equal terms
 
--- equal where m, n, the mode and the terms of each task below n and in the table are: past the table no setup has terms
-pub same_made : (u v : Setup) → length u.terms ≡ 64 → length v.terms ≡ 64 → u.m ≡ v.m → u.n ≡ v.n → u.mode ≡ v.mode
-    → ((j : ℕ) → j < 64 → j < u.n → same_terms (terms_at u j) (terms_at v j) ≡ true) → same_setup u v ≡ true
-unfolding same_setup
-same_made u v lu lv m n mode h =
-    let a = eqb u.m v.m in
-    let b = eqb u.n v.n in
-    let d = eqb u.mode v.mode in
-    and_both (a && b && d) (all u.n (λ j. same_terms (terms_at u j) (terms_at v j)))
-    (and_both (a && b) d (and_both a b (eq-eqb u.m v.m m) (eq-eqb u.n v.n n)) (eq-eqb u.mode v.mode mode))
-    (all_from u.n (λ j. same_terms (terms_at u j) (terms_at v j)) (λ j l. go j l (below_or_from j 64)))
-  where
-    go : (j : ℕ) → j < u.n → (j < 64) ⊎ (64 ≤ j) → same_terms (terms_at u j) (terms_at v j) ≡ true
-    go j l (inl m) = h j m l
-    go j l (inr m) =
-        rw (get_or-eq_default u.terms no_terms {n = j} (omega arith), get_or-eq_default v.terms no_terms {n = j} (omega arith))
-
--- different where a part is
-pub differs : (u v : Setup) → (Same u v → ⊥) → same_setup u v ≡ false
-differs u v h = not_true_false (same_setup u v) (λ e. h (same_parts u v e))
+-- two lists of one length have the same first k where their elements below k are the same: past the lists both read as d
+pub same_first : {A : Type 0} (E : A → A → Bool) (d : A) → E d d ≡ true → (k : ℕ) (xs ys : List A) → length xs ≡ length ys
+    → pointwise E (take k xs) (take k ys) ≡ all k (λ j. E (get_or xs j d) (get_or ys j d))
+same_first E d same zero xs ys e = sym (all_empty (λ j. E (get_or xs j d) (get_or ys j d)))
+same_first E d same (suc k) [] [] e = sym (all_from (suc k) (λ j. E d d) (λ j l. same))
+same_first E d same (suc k) [] (y ∷ ys) e = absurd (omega arith)
+same_first E d same (suc k) (x ∷ xs) [] e = absurd (omega arith)
+same_first E d same (suc k) (x ∷ xs) (y ∷ ys) e =
+    ap (λ (b : Bool). E x y && b) (same_first E d same k xs ys (omega arith))
+    ∙ sym (all_first k (λ j. E (get_or (x ∷ xs) j d) (get_or (y ∷ ys) j d)))
 
 -- ---- the fresh tasks
 

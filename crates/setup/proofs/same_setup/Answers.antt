@@ -1,46 +1,45 @@
--- `setup::same_setup` meets its contract. The loop's invariant: the terms passed that lie below n are equal.
-use Prim.Native.Nat.{◌<◌}
-use mathlib.Core.Path.{◌≡◌, sym, ◌∙◌}
-use mathlib.Core.Bool.{true}
-use native.Mathlib.Omega.{arith}
-use borrow.Author.Count.{below_more}
-use Rattle.objects.proofs.Laws.Below.{not_both}
-use Rattle.rules.specs.Setup.{terms_at, same_terms}
-use Rattle.setup.proofs.Laws.Given.{table_size}
-use Rattle.setup.proofs.Laws.Start.{same_made, differs}
+-- `setup::same_setup` meets its contract. Assumes nothing.
+use Rattle.std.proofs.Common.{arith, ◌≡◌, List, refl, sym, ap, ◌∙◌, Bool, true, false, ◌&&◌, length, take, min}
+use Rattle.std.proofs.lemmas.List.{take_min}
+use lib.Dec.{eqb}
+use lib.Pointwise.{pointwise}
+use Rattle.objects.specs.Below.{all}
+use Rattle.objects.proofs.Laws.Below.{all_ext}
+use Rattle.rules.specs.declared.Terms.{Terms}
+use Rattle.rules.specs.contracts.TermsPartialEq.TheImpl.{eq-value}
+use Rattle.rules.specs.Tasks.{no_terms}
+use Rattle.rules.specs.Setup.{terms_at, same_terms, same_setup}
+use Rattle.setup.proofs.Laws.Start.{same_first}
 use Rattle.setup.proofs.same_setup.Goals as goal
-use Rattle.setup.proofs.same_setup.Goals.{then-i-u+else-not-same_terms, else-i-u}
 
-pub returns-then-u-other : goal.returns-then-u-other
-returns-then-u-other c = let a = c.args in sym (differs a.u a.other (λ same. c.if-u-other.true same.m))
+-- the derived equality compares the three numbers, as `same_terms` does
+derived : (t t' : Terms) → eq-value.it t t' ≡ same_terms t t'
+derived t t' = and_assoc (eqb t.priority t'.priority) (eqb t.period t'.period) (eqb t.transactions t'.transactions)
+  where
+    and_assoc : (p q r : Bool) → (p && (q && r)) ≡ (p && q && r)
+    and_assoc true q r = refl
+    and_assoc false q r = refl
 
-pub returns-then-u-other-2 : goal.returns-then-u-other-2
-returns-then-u-other-2 c = let a = c.args in sym (differs a.u a.other (λ same. c.if-u-other-2.true same.n))
+pub returns-then-eq : goal.returns-then-eq
+unfolding same_setup
+returns-then-eq c =
+    let u = c.args.u in
+    let v = c.args.other in
+    let long : length u.terms ≡ 64 = omega arith in
+    let long' : length v.terms ≡ 64 = omega arith in
+    let cut : (xs : List Terms) → length xs ≡ 64 → take c.min-end.result xs ≡ take u.n xs =
+    λ xs e. ap (λ k. take k xs) (c.min-end.ensures ∙ ap (min u.n) (sym e)) ∙ take_min u.n xs in
+    let terms_same : Bool = all u.n (λ j. same_terms (terms_at u j) (terms_at v j)) in
+    c.eq-then-eq.ensures ∙ ap (λ xs. pointwise eq-value.it xs (take c.min-end.result v.terms)) (cut u.terms long)
+    ∙ ap (pointwise eq-value.it (take u.n u.terms)) (cut v.terms long')
+    ∙ same_first eq-value.it no_terms refl u.n u.terms v.terms (omega arith)
+    ∙ all_ext u.n (λ j. eq-value.it (terms_at u j) (terms_at v j)) (λ j. same_terms (terms_at u j) (terms_at v j))
+    (λ j l. derived (terms_at u j) (terms_at v j))
+    ∙ ap (λ (b : Bool). b && terms_same) c.if-eq.ensures
 
-pub returns-then-u-other-3 : goal.returns-then-u-other-3
-returns-then-u-other-3 c = let a = c.args in sym (differs a.u a.other (λ same. c.if-u-other-3.true same.mode))
-
-pub loop-i-init : goal.loop-i-init
-loop-i-init c = (omega arith, λ j l. absurd (omega arith))
-
-pub returns-then-not-same_terms : goal.returns-then-not-same_terms
-returns-then-not-same_terms c =
-    let a = c.args in
-    let i = c.loop-i.i in
-    sym (differs a.u a.other (λ same. not_both (same_terms (terms_at a.u i) (terms_at a.other i)) (same.terms i c.if-i-u.true)
-    (sym c.same_terms.ensures ∙ c.if-not-same_terms.true)))
-
-pub loop-i-preserved : goal.loop-i-preserved
-loop-i-preserved c =
-    let a = c.args in
-    let i = c.loop-i.i in
-    let at_i : i < a.u.n → same_terms (terms_at a.u i) (terms_at a.other i) ≡ true =
-    elim c.if-i-u.branch [ then-i-u+else-not-same_terms w ↦ λ l. sym w.same_terms.ensures ∙ w.if-not-same_terms.false | else-i-u w ↦ λ l. absurd (omega arith) ] in
-    (omega arith, below_more _ i c.loop-i.invariant.1 at_i)
-
-pub returns : goal.returns
-returns c =
-    let a = c.args in
-    let done : c.loop-i.i ≡ 64 = omega arith in
-    sym (same_made a.u a.other (table_size a.u _ c.well_formed.0) (table_size a.other _ c.well_formed.1.0) c.if-u-other.false c.if-u-other-2.false c.if-u-other-3.false
-    (λ j l. c.loop-i.invariant.1 j (omega arith)))
+pub returns-else-eq : goal.returns-else-eq
+unfolding same_setup
+returns-else-eq c =
+    let u = c.args.u in
+    let v = c.args.other in
+    c.if-eq.false ∙ ap (λ (b : Bool). b && all u.n (λ i. same_terms (terms_at u i) (terms_at v i))) c.if-eq.ensures

@@ -8,6 +8,10 @@ use native.Mathlib.Omega.{arith}
 use lib.Dec.{eqb}
 use lib.ListN.{get_or}
 use borrow.Author.Tests.{ne_eqb}
+use Rattle.std.specs.declared.result.Result.{Result}
+use Rattle.std.specs.declared.result.Result.TheVariants.{Ok, Err}
+use Rattle.rules.specs.declared.Refusal.{Refusal}
+use Rattle.rules.specs.declared.Refusal.TheVariants.{TotalPasses}
 use Rattle.rules.specs.declared.Task.{Task}
 use Rattle.rules.specs.declared.Event.{Event}
 use Rattle.rules.specs.declared.Said.{Said}
@@ -15,6 +19,7 @@ use Rattle.rules.specs.declared.Admission.{Admission}
 use Rattle.rules.specs.declared.Admissions.{Admissions}
 use Rattle.rules.specs.declared.Answer.{Answer}
 use Rattle.rules.specs.Answers.{number}
+use Rattle.rules.specs.Refusals.{result_number}
 use Rattle.rules.specs.Ranking.{by_rank}
 use Rattle.rules.specs.Events.{step}
 use Rattle.rules.specs.History.{is_commit}
@@ -24,7 +29,7 @@ use Rattle.report.specs.declared.WithBooked.{WithBooked}
 use Rattle.report.specs.Items.{Item, commit, entered, enterable, waits_booked, waits_in, written}
 use Rattle.report.specs.Booking.{wait_items, items_in, items, waited_after, book_number, with_figures, booking, row_after}
 use Rattle.tally.specs.declared.Noted.{Noted}
-use Rattle.tally.specs.Listed.{listed_waits, listed_items, entering, row_entering}
+use Rattle.tally.specs.Listed.{listed_waits, listed_items, entering, entering_number, tally_after, entering_tally, row_entering}
 use Rattle.tally.specs.Parts.{Lists, answered}
 
 -- ---- the items, by the list
@@ -100,14 +105,17 @@ module _ (t : Tally) (o : OpenSession) (e : Event) where
 
   -- one that it accepts: its items are entered, or with 41 none
   pub accepted_is : (row : List ℕ) → number answer.said ≡ 0 →
-      let x = entering t (items o e answer) in
-      (booking t o e ≡ made x.tally x.number) × (row_after t o e row ≡ row_entering t (items o e answer) row)
+      let new = items o e answer in
+      (booking t o e ≡ made (entering_tally t new) (entering_number t new)) × (row_after t o e row ≡ row_entering t new row)
   unfolding entering row_entering tried
   accepted_is row z =
       let is : book_number t o e ≡ cond (enterable t.figures (items o e answer)) 0 41 = number_is ∙ ap tried z in
       (booking_is ∙ ap numbered is ∙ by_fit (enterable t.figures (items o e answer)), row_is row ∙ ap (row_by row) is ∙ row_fit (enterable t.figures (items o e answer)))
     where
-      by_fit : (fit : Bool) → numbered (cond fit 0 41) ≡ made (cond fit (with_figures t (entered t.figures (items o e answer))) t) (cond fit 0 41)
+      entry : Bool → Result Tally Refusal
+      entry fit = cond fit (Ok (with_figures t (entered t.figures (items o e answer)))) (Err TotalPasses)
+
+      by_fit : (fit : Bool) → numbered (cond fit 0 41) ≡ made (tally_after t (entry fit)) (result_number (entry fit))
       by_fit true = refl
       by_fit false = refl
 
@@ -117,13 +125,12 @@ module _ (t : Tally) (o : OpenSession) (e : Event) where
 
   -- by items that are those of the answer
   pub entered_is : (a : Answer) (new : List Item) (row : List ℕ) → a ≡ answer → number a.said ≡ 0
-      → new ≡ items_in o.waited o.session.tasks e a.said a.admitted →
-      let x = entering t new in
-      (made x.tally x.number ≡ booking t o e) × (row_entering t new row ≡ row_after t o e row)
+      → new ≡ items_in o.waited o.session.tasks e a.said a.admitted
+      → (made (entering_tally t new) (entering_number t new) ≡ booking t o e) × (row_entering t new row ≡ row_after t o e row)
   unfolding items
   entered_is a new row is z New-is =
       let same : new ≡ items o e answer = New-is ∙ ap (λ (x : Answer). items_in o.waited o.session.tasks e x.said x.admitted) is in
       let both = accepted_is row (sym (ap (λ (x : Answer). number x.said) is) ∙ z) in (
-        ap (λ (xs : List Item). let x = entering t xs in made x.tally x.number) same ∙ sym both.0,
+        ap (λ (xs : List Item). made (entering_tally t xs) (entering_number t xs)) same ∙ sym both.0,
         ap (λ (xs : List Item). row_entering t xs row) same ∙ sym both.1,
       )

@@ -5,7 +5,9 @@ use mathlib.Core.List.{List, [], ◌∷◌, ◌++◌}
 use mathlib.Core.Bool.{Bool, true, false, cond}
 use lib.Dec.{eqb}
 use lib.ListN.{length, get_or, set}
-use Rattle.report.specs.Items.{commit, waits_in, places_of, put_wait, written}
+use Rattle.objects.proofs.Laws.Below.{sum_ext}
+use Rattle.report.specs.declared.Figures.{Figures}
+use Rattle.report.specs.Items.{commit, after, figures_at, entered, waits_booked, waits_in, places_of, put_wait, written}
 use Rattle.report.proofs.Laws.Writing.{waits_append, written_append}
 use Rattle.tally.specs.declared.Noted.{Noted}
 use Rattle.tally.specs.Listed.{listed_wait, listed_waits, noted_commit, listed_items}
@@ -60,3 +62,23 @@ unfolding listed_items
 listed_waits_lem n list =
     waits_append (noted_commit n) (listed_waits list n.tick (min n.admitted 16))
     ∙ ap (λ (xs : List ℕ). xs ++ waits_in (listed_waits list n.tick (min n.admitted 16))) (commit_waits n.commits (n.task % 64) n.waited)
+
+-- nor does one change how many waits are booked
+same_waits : (all : List Figures) (i j : ℕ) (f : Figures) → f.waits ≡ (figures_at all i).waits
+    → (figures_at (set all i f) j).waits ≡ (figures_at all j).waits
+same_waits [] i j f e = refl
+same_waits (g ∷ all) zero zero f e = e
+same_waits (g ∷ all) zero (suc j) f e = refl
+same_waits (g ∷ all) (suc i) zero f e = refl
+same_waits (g ∷ all) (suc i) (suc j) f e = same_waits all i j f e
+
+pub commit_keeps : (all left : List Figures) (n : Noted) → left ≡ entered all (noted_commit n) → waits_booked left ≡ waits_booked all
+unfolding waits_booked entered
+commit_keeps all left n is = ap waits_booked is ∙ go n.commits
+  where
+    i : ℕ
+    i = n.task % 64
+
+    go : (b : Bool) → waits_booked (entered all (cond b (commit i n.waited ∷ []) [])) ≡ waits_booked all
+    go true = sum_ext 64 _ _ (λ j l. same_waits all i j (after (figures_at all i) (commit i n.waited)) refl)
+    go false = refl

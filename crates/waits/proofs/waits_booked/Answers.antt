@@ -1,26 +1,27 @@
--- `waits::waits_booked` meets its contract. The loop's invariant: total is the sum of the waits of the tasks passed, at most the largest for each.
-use Prim.Native.Nat.{ℕ, ◌+◌}
-use mathlib.Core.Path.{◌≡◌, sym, ap, ◌∙◌}
+-- `waits::waits_booked` meets its contract: the sum over the list of the figures. Assumes nothing.
+use mathlib.Core.Path.{◌≡◌, ◌∙◌}
 use native.Mathlib.Omega.{arith}
-use Rattle.objects.specs.Below.{sum}
-use Rattle.objects.proofs.Laws.Below.{sum_empty, sum_more}
-use Rattle.report.specs.Items.{figures_at, waits_booked}
+use borrow.Author.Rules.{rules}
+use Rattle.std.specs.List.{sum_by}
+use Rattle.std.proofs.lemmas.Iterator.{YieldsList-from_slice, YieldsList-from_map}
+use Rattle.std.proofs.lemmas.Iterator.Consumers.{sum_by_from_yields_List, fits_by_from_yields_list}
+use Rattle.waits.proofs.Booked.{waits_of, booked_is, booked_fits}
 use Rattle.waits.proofs.waits_booked.Goals as goal
 
-pub loop-i-init : goal.loop-i-init
-loop-i-init c = (omega arith, sym (sum_empty (λ j. (figures_at c.args.figures j).waits)), omega arith)
-
-pub loop-i-preserved : goal.loop-i-preserved
-loop-i-preserved c =
-    let f : ℕ → ℕ = λ j. (figures_at c.args.figures j).waits in
-    let at = c.loop-i in
-    (omega arith, ap (λ (k : ℕ). k + f at.i) at.invariant.1 ∙ sym (sum_more at.i f), omega arith)
+pub sum-requires-clause-fits : goal.sum-requires-clause-fits
+sum-requires-clause-fits c =
+    fits_by_from_yields_list waits_of c.args.figures _ _
+    (YieldsList-from_map _ waits_of (YieldsList-from_slice c.args.figures cc) c.map.ensures.closure (λ x r q k. search rules))
+    (let fits = booked_fits c.args.figures _ c.well_formed.0.1.0.1 c.well_formed.0.1.1 in omega arith)
 
 pub returns : goal.returns
-unfolding waits_booked
 returns c =
-    let done : c.loop-i.i ≡ 64 = omega arith in
-    record {
-      is = c.loop-i.invariant.1 ∙ ap (λ (k : ℕ). sum k (λ j. (figures_at c.args.figures j).waits)) done;
+    let size = c.well_formed.0.1.0.1 in
+    let sum : c.sum.result ≡ sum_by waits_of c.args.figures =
+    sum_by_from_yields_List waits_of c.args.figures _ _ c.sum.ensures.ran
+    (YieldsList-from_map _ waits_of (YieldsList-from_slice c.args.figures cc) c.map.ensures.closure (λ x r q k. search rules))
+    in
+    let fits = booked_fits c.args.figures _ size c.well_formed.0.1.1 in record {
+      is = sum ∙ booked_is c.args.figures size;
       fits = omega arith;
     }

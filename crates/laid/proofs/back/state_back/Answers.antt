@@ -1,8 +1,5 @@
 -- `laid::back::state_back` meets its contract: the words of the states are asked in the order of its tests. Assumes nothing.
-use Prim.Native.Nat.{ℕ, ◌<◌, ◌%◌}
-use mathlib.Core.Path.{◌≡◌, refl, sym, ◌∙◌}
-use mathlib.Core.List.{List}
-use mathlib.Core.Bool.{Bool, cond}
+use Rattle.std.proofs.Common.{◌≡◌, ◌<◌, ◌%◌, ℕ, List, Bool, cond, refl, sym, ◌∙◌}
 use Rattle.objects.specs.Objects.{bit}
 use Rattle.rules.specs.declared.State.TheVariants.{Absent, Plain, Waiting, Executing}
 use Rattle.machine.specs.Places.{plain_of, waiting_of, executing_of}
@@ -10,41 +7,27 @@ use Rattle.machine.specs.Opened.{wait_back, state_back}
 use Rattle.placing.proofs.Laws.Tasks.{own}
 use Rattle.laid.proofs.back.state_back.Goals as goal
 
-state_is : (w : List ℕ) (i : ℕ)
-    → state_back w i
-    ≡ cond (bit (plain_of w) i) Plain (cond (bit (waiting_of w) i) (Waiting (wait_back w i)) (cond (bit (executing_of w) i) Executing Absent))
+-- the state by what the three words answer, where the question is asked for the task's own number
+state_is : (w : List ℕ) (i : ℕ) (plain waits executes : Bool) → i < 64 → plain ≡ bit (plain_of w) (i % 64) → waits ≡ bit (waiting_of w) (i % 64)
+    → executes ≡ bit (executing_of w) (i % 64) → state_back w i ≡ cond plain Plain (cond waits (Waiting (wait_back w i)) (cond executes Executing Absent))
 unfolding state_back
-state_is w i = refl
-
--- a bit of a word of states, where the question is asked for the task's own number
-asked : (x i : ℕ) (answer : Bool) → i < 64 → answer ≡ bit x (i % 64) → bit x i ≡ answer
-asked x i = own Bool (bit x) i
+state_is w i plain waits executes l p q r =
+    rw (own Bool (bit (plain_of w)) i plain l p, own Bool (bit (waiting_of w)) i waits l q, own Bool (bit (executing_of w)) i executes l r)
 
 pub returns-then-has_bit : goal.returns-then-has_bit
-returns-then-has_bit c =
-    let a = c.args in
-    let plain = asked _ a.i _ c.requires c.has_bit.ensures in
-    sym (state_is a.words.now a.i ∙ rw (plain, c.if-has_bit.true))
+returns-then-has_bit c = sym (state_is c.args.words.now c.args.i _ _ _ c.requires c.has_bit.ensures refl refl ∙ rw c.if-has_bit.true)
 
 pub returns-then-has_bit-2 : goal.returns-then-has_bit-2
 returns-then-has_bit-2 c =
-    let a = c.args in
-    let plain = asked _ a.i _ c.requires c.has_bit.ensures in
-    let waits = asked _ a.i _ c.requires c.has_bit-2.ensures in
-    sym (state_is a.words.now a.i ∙ rw (plain, c.if-has_bit.false, waits, c.if-has_bit-2.true))
+    sym (state_is c.args.words.now c.args.i _ _ _ c.requires c.has_bit.ensures c.has_bit-else-has_bit.ensures refl
+    ∙ rw (c.if-has_bit.false, c.if-has_bit-2.true, c.low_32.ensures, c.low_32-then-has_bit-2.ensures, c.low_32-then-has_bit-2-2.ensures))
 
 pub returns-then-has_bit-3 : goal.returns-then-has_bit-3
 returns-then-has_bit-3 c =
-    let a = c.args in
-    let plain = asked _ a.i _ c.requires c.has_bit.ensures in
-    let waits = asked _ a.i _ c.requires c.has_bit-2.ensures in
-    let executes = asked _ a.i _ c.requires c.has_bit-3.ensures in
-    sym (state_is a.words.now a.i ∙ rw (plain, c.if-has_bit.false, waits, c.if-has_bit-2.false, executes, c.if-has_bit-3.true))
+    sym (state_is c.args.words.now c.args.i _ _ _ c.requires c.has_bit.ensures c.has_bit-else-has_bit.ensures c.has_bit-else-has_bit-2.ensures
+    ∙ rw (c.if-has_bit.false, c.if-has_bit-2.false, c.if-has_bit-3.true))
 
-pub returns : goal.returns
-returns c =
-    let a = c.args in
-    let plain = asked _ a.i _ c.requires c.has_bit.ensures in
-    let waits = asked _ a.i _ c.requires c.has_bit-2.ensures in
-    let executes = asked _ a.i _ c.requires c.has_bit-3.ensures in
-    sym (state_is a.words.now a.i ∙ rw (plain, c.if-has_bit.false, waits, c.if-has_bit-2.false, executes, c.if-has_bit-3.false))
+pub returns-else-has_bit-3 : goal.returns-else-has_bit-3
+returns-else-has_bit-3 c =
+    sym (state_is c.args.words.now c.args.i _ _ _ c.requires c.has_bit.ensures c.has_bit-else-has_bit.ensures c.has_bit-else-has_bit-2.ensures
+    ∙ rw (c.if-has_bit.false, c.if-has_bit-2.false, c.if-has_bit-3.false))

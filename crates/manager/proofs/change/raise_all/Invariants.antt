@@ -1,10 +1,7 @@
--- `manager::change::raise_all` meets its contract. The loop's invariant: the words are those in which the first p places are raised; the
--- places are those of the row, and at most 128 tasks are busy.
-use Prim.Native.Nat.{◌≤◌, min}
+-- `manager::change::raise_all` meets its contract. The loop's invariant: the words are those in which the first p places are raised.
 use mathlib.Core.Path.{◌≡◌}
-use Rattle.machine.specs.Places.{row_size}
 use Rattle.machine.specs.Events.{raised_in}
 use Rattle.manager.proofs.change.raise_all.Given as goal
 
 abbrev pub invariant-loop-p : goal.invariant-loop-p
-invariant-loop-p l = (l.words ≡ raised_in l.initial.words l.i l.busy l.p) × (l.p ≤ l.end) × (l.end ≡ min (row_size l.initial.words) 64) × (l.busy ≤ 128)
+invariant-loop-p l = l.words ≡ raised_in l.initial.words l.i l.busy l.p

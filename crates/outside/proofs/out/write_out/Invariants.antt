@@ -1,9 +1,10 @@
--- The loop of `write_out`: what was taken so far is within the bytes, no write has failed, and each turn takes some more.
-use Rattle.std.proofs.Common.{length, ◌-◌, ◌≤◌, ◌≡◌, None}
+-- The loop of `write_out`: the writer holds so many of the bytes more. Each turn takes some.
+use Rattle.std.proofs.Common.{length, take, ◌-◌, ◌≤◌}
+use Rattle.std.specs.Io.KnownBytes.{Appends}
 use Rattle.outside.proofs.out.write_out.Given as goal
 
-abbrev pub invariant-loop-done : goal.invariant-loop-done
-invariant-loop-done g l = record { within : l.done ≤ length l.bytes; good : l.failed ≡ None }
+abbrev pub invariant-loop-taken : goal.invariant-loop-taken
+invariant-loop-taken g l = (l.taken ≤ length l.bytes) × Appends (g.W.Write.contents l.fn.to) (g.W.Write.contents l.to) (take l.taken l.bytes)
 
-abbrev pub decreases-loop-done : goal.decreases-loop-done
-decreases-loop-done g l = length l.bytes - l.done
+abbrev pub decreases-loop-taken : goal.decreases-loop-taken
+decreases-loop-taken g l = length l.bytes - l.taken

@@ -1,10 +1,7 @@
--- `outside::words::number_of` meets its contract. The loop's invariant: the word says what it says from the place on, after the value so far.
-use Prim.Native.Nat.{◌≤◌}
-use mathlib.Core.Path.{◌≡◌}
-use lib.ListN.{length, drop}
+-- The loop of `number_of`: the word says what it says from the place on, after the value so far.
+use Rattle.std.proofs.Common.{◌≡◌, ◌≤◌, drop}
 use Rattle.outside.specs.Words.{number_from, number_of}
 use Rattle.outside.proofs.words.number_of.Given as goal
 
-abbrev pub invariant-loop-i : goal.invariant-loop-i
-invariant-loop-i l =
-    let i = l.i in (i ≤ length l.word) × (l.value ≤ 4294967295) × (number_from l.value (drop i l.word) ≡ number_of l.word)
+abbrev pub invariant-loop-byte : goal.invariant-loop-byte
+invariant-loop-byte l = (l.value ≤ 4294967295) × (number_from l.value (drop l.byte-index l.word) ≡ number_of l.word)

@@ -1,18 +1,14 @@
 -- `placing::rank::put_in_rank` meets its contract. The loop's invariant: of the tasks below j the bits have moved, and the word has a bit for each that ranks above task i.
-use Prim.Native.Nat.{◌%◌, min}
-use mathlib.Core.Path.{◌≡◌, sym, ◌∙◌}
+use Prim.Native.Nat.{◌%◌}
+use mathlib.Core.Path.{sym, ◌∙◌}
 use native.Mathlib.Omega.{arith}
-use Rattle.machine.specs.Places.{n_of}
 use Rattle.placing.proofs.Laws.Tasks.{task_mod}
 use Rattle.placing.proofs.Laws.Ranks.{bits_none, above_none, more_above, more_below, all_moved}
-use Rattle.placing.proofs.rank.put_in_rank.Goals.{then-words-lt64, else-words-lt64, then-ranks_above, else-ranks_above}
+use Rattle.placing.proofs.rank.put_in_rank.Goals.{then-ranks_above, else-ranks_above}
 use Rattle.placing.proofs.rank.put_in_rank.Goals as goal
 
 pub loop-j-init : goal.loop-j-init
-loop-j-init c =
-    let a = c.args in
-    let end_is : c.if-words-lt64.end ≡ min (n_of a.words.now) 64 = elim c.if-words-lt64.branch [ then-words-lt64 t ↦ omega arith | else-words-lt64 t ↦ omega arith ] in
-    (bits_none a.words.now (a.task % 64), above_none a.words.now (a.task % 64), omega arith, end_is)
+loop-j-init c = let a = c.args in (bits_none a.words.now (a.task % 64), above_none a.words.now (a.task % 64), omega arith, c.min-end.ensures)
 
 pub loop-j-preserved : goal.loop-j-preserved
 loop-j-preserved c =

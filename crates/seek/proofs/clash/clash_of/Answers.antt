@@ -1,45 +1,31 @@
--- `seek::clash::clash_of` meets its contract. The loop's invariant: no group passed is contested.
-use Prim.Native.Nat.{◌%◌, zero-le}
-use mathlib.Core.Path.{◌≡◌, sym, ◌∙◌}
-use native.Mathlib.Omega.{arith}
-use Rattle.objects.proofs.Laws.Below.{any_empty}
-use Rattle.seek.proofs.Laws.Loops.{none_more, group_clash, group_asked, group_clashes_lem, no_group_clashes}
-use Rattle.seek.proofs.clash.clash_of.Goals.{After-group_contested}
+-- `seek::clash::clash_of` meets its contract: two transactions clash where one of the four groups is contested.
+use Prim.Native.Nat.{ℕ, ◌%◌}
+use mathlib.Core.Path.{◌≡◌, refl, sym, ◌∙◌}
+use mathlib.Core.Bool.{Bool, true, false, ◌||◌}
+use borrow.Author.Tests.{tests}
+use Rattle.std.proofs.Common.{rules}
+use Rattle.std.specs.List.{list_any, range_with_len}
+use Rattle.std.proofs.lemmas.Iterator.{YieldsList-from_range}
+use Rattle.std.proofs.lemmas.Iterator.Search.{any_from_yields_List}
+use Rattle.objects.specs.Below.{any}
+use Rattle.seek.proofs.Laws.Clash.{group_clash, clash_in_lem}
 use Rattle.seek.proofs.clash.clash_of.Goals as goal
 
-pub loop-g-init : goal.loop-g-init
-loop-g-init c =
-    let a = c.args in
-    (zero-le, any_empty (group_clash a.words.now (a.task % 64) (a.other % 64)))
-
--- the answer for the group that is looked at
-asked_of : (c : After-group_contested)
-    → let loop = c.before.before.before in
-    let a = loop.args in
-    group_clash a.words.now (a.task % 64) (a.other % 64) loop.loop-g.g ≡ c.group_contested.result
-asked_of c =
-    let loop = c.before.before.before in
-    let a = loop.args in
-    group_asked a.words.now (a.task % 64) (a.other % 64) loop.loop-g.g c.group_of-x.result c.group_contested.result
-    c.group_of-x.ensures c.group_contested.ensures
-
-pub returns-then-group_contested : goal.returns-then-group_contested
-returns-then-group_contested c =
-    let loop = c.before.before.before.before in
-    let a = loop.args in
-    sym (group_clashes_lem a.words.now (a.task % 64) (a.other % 64) loop.loop-g.g c.loop-g-test.true
-    (asked_of c.before ∙ c.if-group_contested.true))
-
-pub loop-g-preserved : goal.loop-g-preserved
-loop-g-preserved c =
-    let loop = c.before.before.before.before in
-    let a = loop.args in (
-      omega arith,
-      none_more loop.loop-g.g (group_clash a.words.now (a.task % 64) (a.other % 64)) loop.loop-g.invariant.1 (asked_of c.before ∙ c.if-group_contested.false),
-    )
+any_four : (f : ℕ → Bool) → list_any f (range_with_len 0 4) ≡ any 4 f
+unfolding any
+any_four f = go (f 0) (f 1) (f 2) (f 3)
+  where
+    go : (a b c d : Bool) → (a || (b || (c || (d || false)))) ≡ ((((false || a) || b) || c) || d)
+    go true b c d = refl
+    go false true c d = refl
+    go false false true d = refl
+    go false false false true = refl
+    go false false false false = refl
 
 pub returns : goal.returns
 returns c =
-    let loop = c.before in
-    let a = loop.args in
-    sym (no_group_clashes a.words.now (a.task % 64) (a.other % 64) loop.loop-g.g (omega arith) loop.loop-g.invariant.1)
+    let w = c.args.words.now in
+    let i = c.args.task % 64 in
+    let j = c.args.other % 64 in
+    any_from_yields_List (group_clash w i j) _ _ c.any.result c.any.ensures.ran (YieldsList-from_range 0 4 4 refl refl) (λ x b q k. search (rules, tests))
+    ∙ any_four (group_clash w i j) ∙ sym (clash_in_lem w i j)

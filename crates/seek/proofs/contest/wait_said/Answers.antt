@@ -1,6 +1,6 @@
 -- `seek::contest::wait_said` meets its contract. The loop's invariant: the groups passed have so many contested objects, the lowest of them is found where there is one, and
 -- the tasks are those with which the transaction clashes in one of these groups.
-use Prim.Native.Nat.{ℕ, ◌%◌}
+use Prim.Native.Nat.{ℕ, ◌%◌, ◌≤◌}
 use mathlib.Core.Path.{◌≡◌}
 use mathlib.Core.List.{List}
 use native.Mathlib.Nat.{le_refl, le_antisymm}
@@ -8,7 +8,8 @@ use native.Mathlib.Omega.{arith}
 use Rattle.objects.specs.Objects.{bit, lowest_object}
 use Rattle.objects.proofs.Laws.Sets.{lowest_lt}
 use Rattle.machine.specs.Asked.{contested_groups}
-use Rattle.seek.proofs.Laws.Ones.{lowest_le}
+use Rattle.objects.proofs.Laws.Below.{least_le}
+use Rattle.machine.specs.Bits.{lowest}
 use Rattle.seek.proofs.Laws.Highest.{foremost_le}
 use Rattle.seek.proofs.Laws.Groups.{passed_none, passed_few, passed_first, passed_later, passed_empty, passed_lowest, passed_many, ones_few}
 use Rattle.seek.proofs.contest.wait_said.Invariants.{groups_fit, told_none, told_more, whom_is, said_is}
@@ -21,6 +22,11 @@ loop-g-init c =
     let w = a.words.now in
     let i = a.task % 64 in
     (passed_none (contested_groups w i) (groups_fit w i), told_none w i)
+
+-- the lowest bit of a word, 64 where it has none
+lowest_le : (x : ℕ) → lowest x ≤ 64
+unfolding lowest
+lowest_le x = least_le 64 (bit x)
 
 pub overflow_add-object : goal.overflow_add-object
 overflow_add-object c = omega (arith, c.lowest_of.ensures, lowest_le c.contested_of-group.result.objects)

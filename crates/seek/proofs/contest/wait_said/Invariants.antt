@@ -13,7 +13,7 @@ use Rattle.rules.specs.declared.Said.TheVariants.{Wait}
 use Rattle.machine.specs.Places.{executing_of}
 use Rattle.machine.specs.Asked.{clashing_in, contested_in, contested_groups, highest_in, wait_said_in}
 use Rattle.seek.specs.Foremost.{foremost}
-use Rattle.seek.proofs.Laws.Loops.{group_clash, clash_is, clash_in_lem}
+use Rattle.seek.proofs.Laws.Clash.{group_clash, clash_is, clash_in_lem}
 use Rattle.seek.proofs.Laws.Highest.{foremost_ext, highest_is}
 use Rattle.seek.proofs.Laws.Groups.{Passed}
 use Rattle.seek.proofs.contest.wait_said.Given as goal

@@ -1,8 +1,9 @@
--- `sheet::plan::sums` meets its contract: the composed text is put as a word is.
-use Rattle.text.proofs.Writing.{line_is}
+-- `sheet::plan::sums` meets its contract: the composed text has room.
+use Rattle.std.proofs.Common.{◌∙◌, arith, ap, length}
+use Rattle.std.proofs.lemmas.Bool.{false≢true}
 use Rattle.sheet.proofs.plan.sums.Goals as goal
 
-pub returns : goal.returns
-returns c =
-    let line = line_is c.sums_text-size.ensures.is in
-    record { says = rw line at c.put_word.ensures.says; leaves = rw line at c.put_word.ensures.leaves }
+pub returns-in_err-ok : goal.returns-in_err-ok
+returns-in_err-ok c =
+    let pushed = c.push_text.ensures.short (omega (arith, ap length c.new-line.ensures)) in
+    absurd (false≢true (c.in_err-ok.ensures.variant ∙ pushed.0))

@@ -1,5 +1,4 @@
 -- `tally::entry::enter_waits` meets its contract. The loop's invariant: the waits passed fit, and the figures are those after them.
-use Prim.Native.Nat.{◌≤◌, min}
 use mathlib.Core.Path.{◌≡◌}
 use mathlib.Core.Bool.{true}
 use lib.ListN.{length}
@@ -8,6 +7,8 @@ use Rattle.tally.specs.Listed.{listed_waits}
 use Rattle.tally.proofs.entry.enter_waits.Given as goal
 
 abbrev pub invariant-loop-k : goal.invariant-loop-k
-invariant-loop-k l =
-    (l.end ≡ min l.admitted 16) × (l.k ≤ l.end) × (length l.figures ≡ 64) × (enterable l.initial.figures (listed_waits l.list l.tick l.k) ≡ true)
-    × (l.figures ≡ entered l.initial.figures (listed_waits l.list l.tick l.k))
+invariant-loop-k l = record {
+  size : length l.figures ≡ 64;
+  fit : enterable l.fn.figures (listed_waits l.list l.tick l.k) ≡ true;
+  figures : l.figures ≡ entered l.fn.figures (listed_waits l.list l.tick l.k);
+}

@@ -5,7 +5,6 @@ use mathlib.Core.Logic.{◌≢◌}
 use mathlib.Core.Bool.{Bool, cond}
 use mathlib.Core.List.{List}
 use native.Mathlib.Numerals.{add-one}
-use native.Mathlib.Omega.{arith}
 use lib.ListN.{length-set, get_or, set}
 use borrow.Author.Tests.{eq-eqb, ne_eqb}
 use Rattle.report.specs.Items.{places_of, waits_in, put_wait, written}
@@ -22,7 +21,7 @@ returns-then-places-eq0 c =
 pub loop-k-init : goal.loop-k-init
 loop-k-init c =
     let a = c.args in
-    (c.listed-end.ensures, omega arith, refl, sym (no_wait a.list.now a.tick a.row.now a.from))
+    record { places = refl; row = sym (no_wait a.list.now a.tick a.row.now a.from) }
 
 -- one more wait: the row with it
 module _ (list : List ℕ) (tick : ℕ) (before row : List ℕ) (from at places ticks : ℕ) where
@@ -47,10 +46,8 @@ loop-k-preserved c =
     let at = c.loop-k.k in
     let row = c.loop-k.row in
     let places = c.places_in-places.result in
-    let places_are : places ≡ places_of row = c.places_in-places.ensures ∙ ap (λ (size : ℕ). min 4096 size) (sym inv.2) in
-    let more = one_more a.list.now a.tick a.row.now row a.from at places c.ticks_since.result places_are c.if-places-eq0.false c.ticks_since.ensures inv.3 in (
-      inv.0,
-      omega arith,
-      length-set row ((a.from + at) % places) c.ticks_since.result ∙ inv.2,
-      more ∙ ap (λ (k : ℕ). written a.row.now a.from (waits_in (listed_waits a.list.now a.tick k))) (sym (add-one at)),
-    )
+    let places_are : places ≡ places_of row = c.places_in-places.ensures ∙ ap (λ (size : ℕ). min 4096 size) (sym inv.places) in
+    let more = one_more a.list.now a.tick a.row.now row a.from at places c.ticks_since.result places_are c.if-places-eq0.false c.ticks_since.ensures inv.row in record {
+      places = length-set row ((a.from + at) % places) c.ticks_since.result ∙ inv.places;
+      row = more ∙ ap (λ (k : ℕ). written a.row.now a.from (waits_in (listed_waits a.list.now a.tick k))) (sym (add-one at));
+    }

@@ -3,9 +3,4 @@ use Rattle.text.proofs.Decimal.{spelled}
 use Rattle.text.proofs.place.put_number.Goals as goal
 
 pub returns : goal.returns
-returns c =
-    let n = c.args.n in
-    let r = c.decimal-k in
-    let e = spelled n r.result r.new.out r.ensures.len r.ensures.digits in
-    let put = c.put_word.ensures in
-    rw e at put
+returns c = let k = c.decimal-k in rw (spelled c.args.n k.result k.new.out k.ensures.len k.ensures.digits) at c.put_word.ensures

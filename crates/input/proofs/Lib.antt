@@ -1,3 +1,0 @@
--- Laws of reads, and of bytes that are moved to the front.
-pub mod Moving
-pub mod Reading

@@ -1,0 +1,2 @@
+-- The laws of how many waits are booked.
+pub mod Booked

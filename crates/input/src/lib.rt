@@ -32,6 +32,7 @@ fn read_tries<R: Read>(
     ensures kept { Kept window.old filled window.new }
     ensures within { IfOk result (λ more. filled + more ≤ length window.old) }
 {
+    // A loop with no end would need a handle, and the project has none.
     for _ in 0..u64::MAX {
         match from.read(&mut window[filled..]) {
             Err(error) if outside::again(rt, outside::code_of(error)) => {}

@@ -19,6 +19,7 @@ fn write_some<W: Write>(rt: &HostRuntime, to: &mut W, bytes: &[u8]) -> Result<us
     ensures within { WritesAtMost result bytes.now }
     ensures sent { WriteAppends (W.contents to.old) (W.contents to.new) result bytes.now }
 {
+    // A loop with no end would need a handle, and the project has none.
     for _ in 0..u64::MAX {
         match to.write(bytes) {
             Err(error) if again(rt, code_of(error)) => {}

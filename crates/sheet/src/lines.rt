@@ -40,7 +40,7 @@ fn put_three(buf: &mut [u8], at: usize, a: &[u8], b: &[u8], c: &[u8]) -> Option<
     put_word(buf, third, c)
 }
 
-// The line of a log that reads badly: `bad`, the number and the log's name.
+// The line of a log that reads badly: `bad`, the number, which may be any, and the log's name.
 pub fn bad_name(buf: &mut [u8], at: usize, number: u8, name: &[u8]) -> Option<usize>
     ensures says { result ≡ wrote buf.old at (bad_text number name.now) }
     ensures leaves { buf.new ≡ buffer_after buf.old at (bad_text number name.now) }

@@ -6,12 +6,12 @@ use Rattle.sheet.proofs.compose.push_long.Goals as goal
 
 pub returns-in_err-push_number-clause-short : goal.returns-in_err-push_number-clause-short
 returns-in_err-push_number-clause-short g c = λ room.
-    absurd (pushes_never c.in_err-push_number.ensures (omega (arith, pushes_size c.in_ok-push_word.ensures, decimal_few c.args.n 19 (omega arith))))
+    absurd (pushes_never c.in_err-push_number.ensures.is (omega (arith, pushes_size c.in_ok-push_word.ensures.is, decimal_few c.args.n 19 (omega arith))))
 
 pub returns-clause-short : goal.returns-clause-short
 returns-clause-short g c = λ room.
     let digits = decimal_few c.args.n 19 (omega arith) in
-    let word = pushes_size c.in_ok-push_word.ensures in
-    let number = pushes_size c.in_ok-push_number.ensures in
-    let last = pushes_short 1 c.push_word-2.ensures (omega arith) (omega arith) in
+    let word = pushes_size c.in_ok-push_word.ensures.is in
+    let number = pushes_size c.in_ok-push_number.ensures.is in
+    let last = pushes_short 1 c.push_word-2.ensures.is (omega arith) (omega arith) in
     (last.0, omega (arith, last.1))

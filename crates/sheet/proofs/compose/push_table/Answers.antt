@@ -11,16 +11,16 @@ use Rattle.sheet.proofs.compose.push_table.Goals as goal
 pub returns-in_err-push_word : goal.returns-in_err-push_word
 unfolding joined parts_after
 returns-in_err-push_word g c = record {
-  is = pushes_err _ c.from_residual.ensures.0 (pushes_stop _ c.in_err-push_word.ensures);
-  short = λ room. absurd (pushes_never c.in_err-push_word.ensures (omega arith));
+  is = pushes_err _ c.from_residual.ensures.0 (pushes_stop _ c.in_err-push_word.ensures.is);
+  short = λ room. absurd (pushes_never c.in_err-push_word.ensures.is (omega arith));
 }
 
 pub loop-i-init : goal.loop-i-init
 unfolding joined parts_after rows_text
 loop-i-init g c = record {
-  text = c.in_ok-push_word.ensures.text refl;
-  fits = pushes_fits c.in_ok-push_word.ensures;
-  short = λ room. omega (arith, pushes_size c.in_ok-push_word.ensures);
+  text = c.in_ok-push_word.ensures.is.text refl;
+  fits = pushes_fits c.in_ok-push_word.ensures.is;
+  short = λ room. omega (arith, pushes_size c.in_ok-push_word.ensures.is);
 }
 
 pub loop-i-preserved : goal.loop-i-preserved

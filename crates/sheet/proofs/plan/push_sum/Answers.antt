@@ -19,16 +19,16 @@ sum_given (Err refusal) is = sym is
 pub returns-in_err-push_number : goal.returns-in_err-push_number
 unfolding sum_text joined parts_after decimals
 returns-in_err-push_number g c = record {
-  is = rw (← c.from.ensures) (pushes_err _ c.from_residual.ensures.0 (pushes_stop _ c.in_err-push_number.ensures));
-  short = λ room. absurd (pushes_never c.in_err-push_number.ensures (omega (arith, three c.from.result (omega arith))));
+  is = rw (← c.from.ensures) (pushes_err _ c.from_residual.ensures.0 (pushes_stop _ c.in_err-push_number.ensures.is));
+  short = λ room. absurd (pushes_never c.in_err-push_number.ensures.is (omega (arith, three c.from.result (omega arith))));
 }
 
 pub returns : goal.returns
 unfolding sum_text joined parts_after decimals
 returns g c = record {
-  is = rw (← c.sum.ensures, sum_given c.sum.result c.unwrap_or.ensures, ← c.from.ensures) (pushes_more c.in_ok-push_number.ensures c.push_long.ensures.is);
+  is = rw (← c.sum.ensures, sum_given c.sum.result c.unwrap_or.ensures, ← c.from.ensures) (pushes_more c.in_ok-push_number.ensures.is c.push_long.ensures.is);
   short = λ room.
-      let number = pushes_size c.in_ok-push_number.ensures in
+      let number = pushes_size c.in_ok-push_number.ensures.is in
       let digits = three c.from.result (omega arith) in
       let last = c.push_long.ensures.short (omega arith) in
       (last.0, omega (arith, last.1));

@@ -3,4 +3,5 @@ pub mod Logs
 pub mod Back
 pub mod Moved
 pub mod Progress
+pub mod Number
 pub mod Laws

@@ -84,7 +84,9 @@ fn input_log(rt: &HostRuntime, name: &mut [u8]) -> Log
 }
 
 // Says that a name is longer than any that the system takes, by its place among the words.
-fn too_long(rt: &HostRuntime, program: &[u8], place: usize) -> Verdict {
+fn too_long(rt: &HostRuntime, program: &[u8], place: usize) -> Verdict
+    ensures { result ≡ Verdict.Failed }
+{
     let mut digits = [0u8; 20];
     let size = io::decimal(place as u64, &mut digits);
     failed(
@@ -138,16 +140,22 @@ fn open_read(rt: &HostRuntime, i: usize, name: &[u8]) -> std::io::Result<File> {
 }
 
 // Opens the log of this name, word i of the call, for reading. What is wrong is said.
-fn opened(rt: &HostRuntime, program: &[u8], i: usize, name: &[u8]) -> Result<Source, Verdict> {
-    match word_of(name) {
-        Word::Input => Ok(Source::Input(rt.stdin())),
-        Word::Empty => Err(wrong(rt, program, b"a name is empty", b"")),
-        Word::Flag => Err(wrong(rt, program, b"unknown flag", name)),
+fn opened(rt: &HostRuntime, program: &[u8], i: usize, name: &[u8]) -> Result<Log, Verdict>
+    ensures { IfOk result (λ log. log.size ≡ length name.now) }
+{
+    let source = match word_of(name) {
+        Word::Input => Source::Input(rt.stdin()),
+        Word::Empty => return Err(wrong(rt, program, b"a name is empty", b"")),
+        Word::Flag => return Err(wrong(rt, program, b"unknown flag", name)),
         Word::Name => match open_read(rt, i, name) {
-            Ok(file) => Ok(Source::Opened(file)),
-            Err(error) => Err(cannot(rt, name, Some(error))),
+            Ok(file) => Source::Opened(file),
+            Err(error) => return Err(cannot(rt, name, Some(error))),
         },
-    }
+    };
+    Ok(Log {
+        source,
+        size: name.len(),
+    })
 }
 
 // The log that word i of a call names, with its name put into the lent bytes; standard input where the call has no such word. What is wrong is said.
@@ -168,6 +176,5 @@ pub fn log_of(
         let place = if c.first <= i { i - c.first + 1 } else { i };
         return Err(too_long(rt, program, place));
     };
-    let source = opened(rt, program, i, &name[..size])?;
-    Ok(Log { source, size })
+    opened(rt, program, i, &name[..size])
 }

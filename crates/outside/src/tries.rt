@@ -12,15 +12,21 @@ const EINTR: i32 = 4;
 
 const EAGAIN: i32 = 11;
 
-// Whether a call that failed with this error is tried again: it was interrupted, or would have had to wait. In the second case there is a rest of a millisecond first, so that a
-// program that waits for its reader keeps no processor busy.
+// Lets a millisecond pass.
+fn rest(rt: &HostRuntime) {
+    rt.sleep(Duration::from_millis(1));
+}
+
+// Whether a call that failed with this error is tried again: it was interrupted, or would have had to wait. In the second case there is a rest first, so that a program that
+// waits for its reader keeps no processor busy.
 pub fn again(rt: &HostRuntime, error: i32) -> bool
     ensures { result ≡ passing error }
 {
     if error == EAGAIN {
-        rt.sleep(Duration::from_millis(1));
+        rest(rt);
+        return true;
     }
-    error == EINTR || error == EAGAIN
+    error == EINTR
 }
 
 // The system's number of an error, and 0 for one that is not the system's.

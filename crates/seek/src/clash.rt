@@ -67,5 +67,17 @@ pub fn clash_of(words: &Words, task: u64, other: u64) -> bool
 pub fn blocked(words: &Words, task: u64) -> bool
     ensures { result ≡ blocked_in words.now (task % 64) }
 {
-    Tasks(executing_of(words)).any(|other| clash_of(words, task, other))
+    let i = (task % 64) as usize;
+    let mut found = false;
+    // The form that 01 names: a nested search over the executing tasks and the groups of objects, left by its label at the first clash found.
+    'search: for other in Tasks(executing_of(words)) {
+        let j = (other % 64) as usize;
+        for g in 0..4 {
+            if group_of(words, i, j, g).is_contested() {
+                found = true;
+                break 'search;
+            }
+        }
+    }
+    found
 }

@@ -6,7 +6,7 @@ use mathlib.Core.Bool.{Bool, true, false, cond, not, ◌&&◌, ◌||◌}
 use native.Mathlib.Omega.{arith}
 use lib.Dec.{eqb, leb, ltb}
 use lib.Bits.{bit_or}
-use borrow.Author.Tests.{ltb-true, leb-false, ne_eqb}
+use borrow.Author.Tests.{ltb-true, ltb-false, leb-false, ne_eqb}
 use Rattle.objects.specs.Objects.{bit}
 use Rattle.objects.proofs.Laws.Below.{and_left, and_right}
 use Rattle.objects.proofs.Laws.Bits.{bit_or_lem}
@@ -50,8 +50,12 @@ module _ (w : List ℕ) (tick i rest : ℕ) where
 -- ---- what is known where none of the first three is given
 
 pub record Passed (w : List ℕ) (at i : ℕ) : Type 0 where
+  pub m_low : 1 ≤ m_of w
   pub m_high : m_of w ≤ 16
+  pub n_high : n_of w ≤ 64
+  pub below : i < n_of w
   pub small : i < 64
+  pub tick : tick_of w ≤ at
   pub accepted : accepted_of w < 1000000
 
 module _ (w : List ℕ) (at i rest : ℕ) (e : trying_in w at i rest ≡ 0) where
@@ -72,10 +76,18 @@ module _ (w : List ℕ) (at i rest : ℕ) (e : trying_in w at i rest ≡ 0) wher
       let ns = allowed_bounds 64 (n_of w) (and_right (allowed 16 (m_of w)) (allowed 64 (n_of w)) both) in
       let below : i < n_of w = ltb-true i (n_of w) (and_right sizes (ltb i (n_of w)) known_timely.0) in
       record {
+        m_low = ms.0;
         m_high = ms.1;
+        n_high = ns.1;
+        below = below;
         small = omega (arith, ns.1);
+        tick = ltb-false at (tick_of w) timely.0;
         accepted = leb-false 1000000 (accepted_of w) few.0;
       }
+
+  -- and the rest gives none
+  pub rest_none : rest ≡ 0
+  rest_none = few.1
 
 -- ---- the numbers that an event tries after the first three
 
@@ -175,3 +187,7 @@ module _ (w : List ℕ) (tick i : ℕ) where
 
   pub release_passed : release_number_in w tick i ≡ 0 → Passed w tick i
   release_passed e = finish_passed (release_parts e).0
+
+  -- there is a transaction left
+  pub release_left : release_number_in w tick i ≡ 0 → releases_at w i < transactions_at w i
+  release_left e = ltb-true (releases_at w i) (transactions_at w i) (release_parts e).1

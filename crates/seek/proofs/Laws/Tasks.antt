@@ -13,11 +13,12 @@ use Rattle.std.specs.List.{list_any}
 use Rattle.std.proofs.lemmas.List.Folds.{list_any-append}
 use Rattle.objects.specs.Below.{any}
 use Rattle.objects.specs.Objects.{bit}
-use Rattle.objects.proofs.Laws.Below.{below_less, below_suc, least_has, least_before, least_found}
-use Rattle.objects.proofs.Laws.Bits.{bit_zero, any_bit}
+use Rattle.objects.proofs.Laws.Below.{below_less, below_suc}
+use Rattle.objects.proofs.Laws.Bits.{bit_zero}
 use Rattle.machine.specs.Bits.{without_bit, lowest}
 use Rattle.machine.proofs.Laws.Bits.{without_bit_lem}
 use Rattle.seek.specs.Tasks.{those_below, tasks_in}
+use Rattle.seek.proofs.Laws.Ones.{lowest_lt, lowest_one, lowest_before}
 
 -- ---- the numbers below k that have f
 
@@ -64,21 +65,6 @@ those_any (suc k) f p =
     last : (b : Bool) → list_any p (cond b (k ∷ []) []) ≡ (b && p k)
     last true = or-false (p k)
     last false = refl
-
--- ---- the lowest task of a word
-
--- there is one where the word is not 0
-lowest_lt : (x : ℕ) → x < 2 ^ 64 → x ≢ 0 → lowest x < 64
-unfolding lowest
-lowest_lt x l n = least_found 64 (bit x) (any_bit 64 x l ∙ ap not (ne_eqb x 0 n))
-
-lowest_one : (x : ℕ) → lowest x < 64 → bit x (lowest x) ≡ true
-unfolding lowest
-lowest_one x = least_has 64 (bit x)
-
-lowest_before : (x j : ℕ) → j < lowest x → bit x j ≡ false
-unfolding lowest
-lowest_before x = least_before 64 (bit x)
 
 -- ---- the tasks of a word
 

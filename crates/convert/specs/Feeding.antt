@@ -1,4 +1,4 @@
--- What copying a window leads to.
+-- What copying a window leads to. 01 has no sentence of it: the program goes on in the window behind what was used.
 use Rattle.std.specs.Prelude.{ℕ, ◌≤◌}
 use Rattle.convert.specs.declared.Fed.{Fed}
 use Rattle.convert.specs.declared.Fed.TheVariants.{More, Ended}

@@ -1,1 +1,2 @@
+-- What copying a window of a log leads to.
 pub mod Feeding
